@@ -1,5 +1,7 @@
 -- A line has no fault exactly where it spells a block.
-use Rattle.std.proofs.Common.{◌≡◌, ℕ, zero, suc, ◌+◌, ◌-◌, ◌%◌, ◌^◌, ◌<◌, ◌≤◌, ◌==◌, nat_le, Bool, true, false, not, ◌&&◌, List, [], ◌∷◌, ◌++◌, length, map, Option, Some, None, refl, sym, ap, ◌∙◌, arith, eqb-true, inl, inr}
+use Rattle.std.proofs.Common.{◌≡◌, ℕ, zero, suc, ◌+◌, ◌-◌, ◌%◌, ◌^◌, ◌<◌, ◌≤◌, ◌==◌, nat_le, Bool, true, false, not}
+use Rattle.std.proofs.Common.{◌&&◌, List, [], ◌∷◌, ◌++◌, length, map, Option, Some, None, refl, sym, ap, ◌∙◌, arith}
+use Rattle.std.proofs.Common.{eqb-true, inl, inr}
 use Rattle.std.specs.Prelude.{option_map}
 use Rattle.std.specs.List.{position_from}
 use Rattle.std.proofs.lemmas.Bool.{agree_below, agree_below_at, and_parts, and_right, cases_Bool, cases_lt, lt-leb, leb-true}
@@ -11,7 +13,8 @@ use Rattle.csn_bits.specs.Line.{BlockLine, bits_of_tail, digits_of, fault_of, is
 use Rattle.csn_bits.specs.Feed.{AreDigits, tail_text, waiting_value}
 use Rattle.csn_bits.proofs.Faults.{IsWhole, fault-bad_digit, fault-fill, fault-many, fault-no_octet, fault-none, fault-odd, fault-tail}
 use Rattle.csn_bits.proofs.Packing.{AreOctets, length-octets_of, octets_of-small}
-use Rattle.csn_bits.proofs.ReadBack.{AreDigits-encode_upper, bits_of_tail-tail_for, counted_for, octets_of_digits-encode_upper, tail_for, waiting-encode_upper, written_parts}
+use Rattle.csn_bits.proofs.ReadBack.{AreDigits-encode_upper, bits_of_tail-tail_for, counted_for}
+use Rattle.csn_bits.proofs.ReadBack.{octets_of_digits-encode_upper, tail_for, waiting-encode_upper, written_parts}
 use Rattle.csn_bits.proofs.Written.{block_line-dot, counting_byte, ends_with, upper_low}
 
 -- ---- a line without fault spells a block
@@ -217,7 +220,8 @@ fault_of-written (bit ∷ rest) s few =
 
 -- ---- both ways
 
-pub fault_or_block : (line : List ℕ) → (fault_of line ≡ None → (bits : List ℕ) × BlockLine line bits) × (((bits : List ℕ) × BlockLine line bits) → fault_of line ≡ None)
+pub fault_or_block : (line : List ℕ) → (fault_of line ≡ None → (bits : List ℕ) × BlockLine line bits)
+    × (((bits : List ℕ) × BlockLine line bits) → fault_of line ≡ None)
 fault_or_block line = (
   λ none. spelled_parts line (parts line) none,
   λ (bits, block).

@@ -1,5 +1,6 @@
 -- Lines of whole octets, as the crate hex decodes them.
-use Rattle.std.proofs.Common.{◌≡◌, ℕ, ◌+◌, ◌*◌, ◌%◌, ◌≤◌, true, List, [], ◌∷◌, length, map, take, Option, Some, None, is_some, unwrap_or, Result, Ok, Err, refl, sym, ap, ◌∙◌, arith, append-nil, subst}
+use Rattle.std.proofs.Common.{◌≡◌, ℕ, ◌+◌, ◌*◌, ◌%◌, ◌≤◌, true, List, [], ◌∷◌, length, map, take, Option, Some, None}
+use Rattle.std.proofs.Common.{is_some, unwrap_or, Result, Ok, Err, refl, sym, ap, ◌∙◌, arith, append-nil, subst}
 use Rattle.std.specs.Prelude.{MatchResult}
 use Rattle.std.specs.List.{AllPass}
 use Rattle.std.proofs.lemmas.List.{length-take, length-take-le, take-take}

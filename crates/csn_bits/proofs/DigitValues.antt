@@ -1,5 +1,7 @@
 -- The table of the values of digits, and digits that are read by pairs.
-use Rattle.std.proofs.Common.{◌≡◌, ℕ, zero, suc, ◌+◌, ◌*◌, ◌<◌, ◌≤◌, ◌==◌, nat_le, true, false, if◌then◌else◌, List, [], ◌∷◌, ◌++◌, length, take, get_or, append_assoc, Option, Some, None, is_some, unwrap_or, refl, sym, ap, ◌∙◌, subst, arith, eqb-true, slice_index}
+use Rattle.std.proofs.Common.{◌≡◌, ℕ, zero, suc, ◌+◌, ◌*◌, ◌<◌, ◌≤◌, ◌==◌, nat_le, true, false, if◌then◌else◌, List}
+use Rattle.std.proofs.Common.{[], ◌∷◌, ◌++◌, length, take, get_or, append_assoc, Option, Some, None, is_some}
+use Rattle.std.proofs.Common.{unwrap_or, refl, sym, ap, ◌∙◌, subst, arith, eqb-true, slice_index}
 use Rattle.std.proofs.lemmas.List.{take_more, take_more_set, length-take-le}
 use Rattle.std.proofs.lemmas.Bool.{agree_below_at, le-leb, lt-leb}
 use Rattle.hex.specs.Hex.{hex_digit_value}
@@ -25,7 +27,8 @@ abbrev by_table : ℕ → Option ℕ
 by_table byte = if nat_le (slice_index DIGIT_VALUES byte) 15 then Some (slice_index DIGIT_VALUES byte) else None
 
 by_table_is : (byte : ℕ) → byte < 256 → by_table byte ≡ hex_digit_value byte
-by_table_is byte low = one_option (by_table byte) (hex_digit_value byte) (eqb-true _ _ (agree_below_at (λ k. code (by_table k) == code (hex_digit_value k)) (λ _. true) 256 byte refl low))
+by_table_is byte low = one_option (by_table byte) (hex_digit_value byte)
+    (eqb-true _ _ (agree_below_at (λ k. code (by_table k) == code (hex_digit_value k)) (λ _. true) 256 byte refl low))
 
 pub is_digit : (byte : ℕ) → byte < 256 → slice_index DIGIT_VALUES byte < 16 → Some (slice_index DIGIT_VALUES byte) ≡ hex_digit_value byte
 is_digit byte low small =
@@ -64,7 +67,8 @@ two_more bytes at high low within is_high is_low =
     ∙ ap (λ n. take (2 * at) bytes ++ high ∷ n ∷ []) is_low
 
 -- one pair more
-pub read_more : (bytes room after : List ℕ) (at octet high low : ℕ) → 2 * at + 1 < length bytes → get_or bytes (2 * at) 0 ≡ high → get_or bytes (2 * at + 1) 0 ≡ low
+pub read_more : (bytes room after : List ℕ) (at octet high low : ℕ)
+    → 2 * at + 1 < length bytes → get_or bytes (2 * at) 0 ≡ high → get_or bytes (2 * at + 1) 0 ≡ low
     → AreDigits (high ∷ low ∷ []) → octet ∷ [] ≡ octets_of_digits (high ∷ low ∷ []) → take (at + 1) after ≡ take at room ++ octet ∷ []
     → AreRead bytes room at → AreRead bytes after (at + 1)
 read_more bytes room after at octet high low within is_high is_low digits written stored read =

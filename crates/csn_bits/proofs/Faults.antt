@@ -1,11 +1,13 @@
 -- The first fault of a line, by its digits and its tail.
-use Rattle.std.proofs.Common.{◌≡◌, ℕ, zero, suc, ◌+◌, ◌-◌, ◌*◌, ◌%◌, ◌^◌, ◌<◌, ◌≤◌, ◌==◌, nat_lt, true, false, not, ◌||◌, List, [], ◌∷◌, ◌++◌, length, sum, Option, Some, None, refl, sym, ap, ◌∙◌, arith}
+use Rattle.std.proofs.Common.{◌≡◌, ℕ, zero, suc, ◌+◌, ◌-◌, ◌*◌, ◌%◌, ◌^◌, ◌<◌, ◌≤◌, ◌==◌, nat_lt, true, false, not}
+use Rattle.std.proofs.Common.{◌||◌, List, [], ◌∷◌, ◌++◌, length, sum, Option, Some, None, refl, sym, ap, ◌∙◌, arith}
 use Rattle.std.specs.Prelude.{is_none}
 use Rattle.std.specs.List.{position_from}
 use Rattle.std.proofs.lemmas.Bool.{eq-eqb, ne_eqb, le-ltb, lt-ltb, or_left, or_right, or_from}
 use Rattle.std.proofs.lemmas.List.{length_push}
 use Rattle.hex.specs.Hex.{is_hex_digit}
-use Rattle.csn_bits.specs.Line.{bad_fill, bad_length, bits_of_tail, digits_of, fault_of, first_fault, is_dot, last_of, octets_of_digits, tail_of, too_many_bits, unused_bits}
+use Rattle.csn_bits.specs.Line.{bad_fill, bad_length, bits_of_tail, digits_of, fault_of, first_fault, is_dot, last_of}
+use Rattle.csn_bits.specs.Line.{octets_of_digits, tail_of, too_many_bits, unused_bits}
 use Rattle.csn_bits.specs.Feed.{AreDigits, all_but_last, tail_text, waiting_value}
 use Rattle.csn_bits.specs.declared.fault.LineWhy.{LineWhy}
 use Rattle.csn_bits.specs.declared.fault.LineWhy.TheVariants.{BadDigit, BadLength, BadFill, TooManyBits}
@@ -150,7 +152,8 @@ fault-whole digits tail octet used w =
     ) refl)
 
 -- the unused bits of an octet are all 0 exactly where it is a multiple
-unused_sum : (octet used : ℕ) → 1 ≤ used → used ≤ 8 → (octet % 2 ^ (8 - used) ≡ 0 → sum (unused_bits octet used) ≡ 0) × (0 < octet % 2 ^ (8 - used) → 0 < sum (unused_bits octet used))
+unused_sum : (octet used : ℕ) → 1 ≤ used → used ≤ 8 → (octet % 2 ^ (8 - used) ≡ 0 → sum (unused_bits octet used) ≡ 0)
+    × (0 < octet % 2 ^ (8 - used) → 0 < sum (unused_bits octet used))
 unused_sum octet zero some few = absurd (omega arith)
 unused_sum octet (suc zero) some few = (λ h. omega arith, λ h. omega arith)
 unused_sum octet (suc (suc zero)) some few = (λ h. omega arith, λ h. omega arith)

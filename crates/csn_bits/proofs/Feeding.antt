@@ -1,5 +1,7 @@
 -- What a feed keeps of a line, one byte on.
-use Rattle.std.proofs.Common.{◌≡◌, ℕ, ◌+◌, ◌*◌, ◌<◌, ◌≤◌, ◌==◌, Bool, true, false, ◌&&◌, List, [], ◌∷◌, ◌++◌, length, take, Option, Some, None, is_some, unwrap_or, refl, sym, ap, subst, ◌∙◌, arith, append_assoc, append-nil, eqb-true, inl, inr}
+use Rattle.std.proofs.Common.{◌≡◌, ℕ, ◌+◌, ◌*◌, ◌<◌, ◌≤◌, ◌==◌, Bool, true, false, ◌&&◌, List, [], ◌∷◌, ◌++◌, length}
+use Rattle.std.proofs.Common.{take, Option, Some, None, is_some, unwrap_or, refl, sym, ap, subst, ◌∙◌, arith}
+use Rattle.std.proofs.Common.{append_assoc, append-nil, eqb-true, inl, inr}
 use Rattle.std.proofs.lemmas.Bool.{cases_Bool, and_parts}
 use Rattle.std.proofs.lemmas.List.{nil_from_length}
 use Rattle.hex.specs.Hex.{hex_digit_value, is_hex_digit}
@@ -8,7 +10,10 @@ use Rattle.csn_bits.specs.Feed.{AreDigits, Holds, dot, bad, read, all_but_last, 
 use Rattle.csn_bits.specs.declared.fault.LineWhy.TheVariants.{BadDigit, BadLength}
 use Rattle.csn_bits.specs.declared.feed.Stage.{Stage}
 use Rattle.csn_bits.specs.declared.feed.Stage.TheVariants as stage
-use Rattle.csn_bits.proofs.Digits.{AreDigits-append, AreDigits-push, given-append, given-behind, given-push, given-push_full, last_none, last_of-append, last_of-push, length-octets_even, length-octets_odd, leading-all, leading-stop, octets-append, octets-push_first, octets-push_second, waiting-append, waiting-push_first, waiting-push_second}
+use Rattle.csn_bits.proofs.Digits.{AreDigits-append, AreDigits-push, given-append, given-behind, given-push}
+use Rattle.csn_bits.proofs.Digits.{given-push_full, last_none, last_of-append, last_of-push, length-octets_even}
+use Rattle.csn_bits.proofs.Digits.{length-octets_odd, leading-all, leading-stop, octets-append, octets-push_first}
+use Rattle.csn_bits.proofs.Digits.{octets-push_second, waiting-append, waiting-push_first, waiting-push_second}
 use Rattle.csn_bits.proofs.Faults.{fault-bad_digit, fault-tail}
 
 -- nothing yet
@@ -47,7 +52,8 @@ pairs_fill digits pairs odd full = omega arith
 half_fits : (digits more pairs : ℕ) → digits ≡ 2 * pairs → digits + more ≤ 131072 → pairs ≤ 65536
 half_fits digits more pairs even fits = omega arith
 
-halves_fit : (digits more pairs others : ℕ) → digits ≡ 2 * pairs → more ≡ 2 * others → 1 ≤ more → digits + more ≤ 131072 → (1 ≤ others) × (pairs + others ≤ 65536)
+halves_fit : (digits more pairs others : ℕ) → digits ≡ 2 * pairs → more ≡ 2 * others → 1 ≤ more
+    → digits + more ≤ 131072 → (1 ≤ others) × (pairs + others ≤ 65536)
 halves_fit digits more pairs others even also some fits = (omega arith, omega arith)
 
 -- a digit more is taken by a feed that kept this much
@@ -64,7 +70,8 @@ module _ (line : List ℕ) (at : Stage) (waiting last : Option ℕ) (digit value
   holds_first none =
       let (s, w, o) = holds_digits at waiting last line h is in
       let even : waiting_value line ≡ None = sym w ∙ none in
-      subst (λ (a : Stage). Holds a (Some value) last (line ++ digit ∷ [])) (sym is) (holds_from (line ++ digit ∷ []) (Some value) last (AreDigits-push line digit s d)
+      subst (λ (a : Stage). Holds a (Some value) last (line ++ digit ∷ [])) (sym is)
+      (holds_from (line ++ digit ∷ []) (Some value) last (AreDigits-push line digit s d)
       (sym (waiting-push_first line digit even ∙ ap (λ (n : ℕ). Some n) valued))
       (o ∙ ap last_of (sym (octets-push_first line digit even))))
 
@@ -128,7 +135,8 @@ module _ (line digits : List ℕ) (at : Stage) (waiting last : Option ℕ) (h : 
   holds_pairs octet some =
       let (s, w, o) = holds_digits at waiting last line h is in
       let none : waiting_value line ≡ None = sym w ∙ even in
-      subst (λ (a : Stage). Holds a waiting (Some octet) (line ++ digits)) (sym is) (holds_from (line ++ digits) waiting (Some octet) (AreDigits-append line digits s all)
+      subst (λ (a : Stage). Holds a waiting (Some octet) (line ++ digits)) (sym is)
+      (holds_from (line ++ digits) waiting (Some octet) (AreDigits-append line digits s all)
       (even ∙ sym (waiting-append line digits none ∙ pairs))
       (sym (ap last_of (octets-append line digits none) ∙ last_of-append (octets_of_digits line) (octets_of_digits digits) octet some)))
 
@@ -137,7 +145,9 @@ module _ (line digits : List ℕ) (at : Stage) (waiting last : Option ℕ) (h : 
   given_pairs some fits =
       let (s, w, o) = holds_digits at waiting last line h is in
       let none : waiting_value line ≡ None = sym w ∙ even in
-      let fits = halves_fit (length line) (length digits) (length (octets_of_digits line)) (length (octets_of_digits digits)) (length-octets_even line none) (length-octets_even digits pairs) some fits in
+      let fits = halves_fit (length line) (length digits) (length (octets_of_digits line))
+      (length (octets_of_digits digits)) (length-octets_even line none) (length-octets_even digits pairs)
+      some fits in
       given_of_digits (line ++ digits) (AreDigits-append line digits s all)
       ∙ ap (λ (os : List ℕ). take 65536 (all_but_last os)) (octets-append line digits none)
       ∙ given-append (octets_of_digits line) (octets_of_digits digits) fits.0 fits.1
@@ -187,7 +197,8 @@ no_dot (d ∷ []) byte more = refl
 no_dot (d ∷ e ∷ rest) byte more = refl
 
 -- the first byte that is no digit
-holds_end_of_digits : (line : List ℕ) (waiting last : Option ℕ) (byte : ℕ) → AreDigits line → waiting ≡ waiting_value line → last ≡ last_of (octets_of_digits line)
+holds_end_of_digits : (line : List ℕ) (waiting last : Option ℕ) (byte : ℕ)
+    → AreDigits line → waiting ≡ waiting_value line → last ≡ last_of (octets_of_digits line)
     → is_hex_digit byte ≡ false → Holds (stage_after stage.Digits byte (length line)) waiting last (line ++ byte ∷ [])
 holds_end_of_digits line waiting last byte s w o fails =
     elim (cases_Bool (byte == 47)) [
@@ -214,7 +225,8 @@ holds_after line at waiting last byte column (read digits None l s w o e) c fail
     let all : line ≡ digits = l ∙ append-nil digits in
     rw (e, c, all) (holds_end_of_digits digits waiting last byte s w o (fails e))
 holds_after line at waiting last byte column (read digits (Some tail) l s w o e) c fails =
-    rw (e, l) (read digits (Some (tail ++ byte ∷ [])) (append_assoc digits (47 ∷ tail) (byte ∷ [])) s w o (stage_of_tail-push (length digits) tail byte column))
+    rw (e, l) (read digits (Some (tail ++ byte ∷ [])) (append_assoc digits (47 ∷ tail) (byte ∷ [])) s w o
+    (stage_of_tail-push (length digits) tail byte column))
 
 leading_after : (line : List ℕ) (at : Stage) (waiting last : Option ℕ) (byte : ℕ) → Holds at waiting last line
     → (at ≡ stage.Digits → is_hex_digit byte ≡ false) → leading_digits (line ++ byte ∷ []) ≡ leading_digits line

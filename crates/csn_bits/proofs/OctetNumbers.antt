@@ -1,5 +1,6 @@
 -- The number of bits that stand in octets.
-use Rattle.std.proofs.Common.{◌≡◌, ℕ, zero, suc, ◌+◌, ◌-◌, ◌*◌, ◌/◌, ◌%◌, ◌^◌, ◌<◌, ◌≤◌, List, [], ◌∷◌, length, take, drop, get_or, sym, ap, ◌∙◌, arith, length-drop, take-append-drop}
+use Rattle.std.proofs.Common.{◌≡◌, ℕ, zero, suc, ◌+◌, ◌-◌, ◌*◌, ◌/◌, ◌%◌, ◌^◌, ◌<◌, ◌≤◌, List, [], ◌∷◌, length, take}
+use Rattle.std.proofs.Common.{drop, get_or, sym, ap, ◌∙◌, arith, length-drop, take-append-drop}
 use Rattle.std.proofs.Math.Pow.{pow_mono}
 use Rattle.std.proofs.Math.Seq.{take-suc}
 use Rattle.std.proofs.lemmas.List.{length-take-le}
@@ -40,7 +41,8 @@ first_octets_small octets at small low few =
     let count : length front ≡ at = length-take-le at octets (omega arith) in
     let bytes : AreOctets front = AreOctets-take at octets small in
     let less = number_of-lt (bits_of_octets front) (IsBits-bits_of_octets front bytes) in
-    let power : 2 ^ length (bits_of_octets front) ≤ 2 ^ 56 = pow_mono {i = length (bits_of_octets front)} {j = 56} (omega (arith, length-bits_of_octets front, count)) in
+    let power : 2 ^ length (bits_of_octets front) ≤ 2 ^ 56 = pow_mono {i = length (bits_of_octets front)} {j = 56}
+    (omega (arith, length-bits_of_octets front, count)) in
     omega (arith, less, power)
 
 -- the first bits of some write the number of all without that of the others
@@ -50,5 +52,6 @@ number_of-first bits n are within =
     let count : length back ≡ length bits - n = length-drop n bits in
     let less : number_of back < 2 ^ (length bits - n) = rw (sym count) (number_of-lt back (IsBits-drop n bits are)) in
     let parts : number_of bits ≡ number_of (take n bits) * 2 ^ (length bits - n) + number_of back =
-    ap (λ l. number_of l) (sym (take-append-drop n bits)) ∙ number_of-append (take n bits) back ∙ ap (λ k. number_of (take n bits) * 2 ^ k + number_of back) count in
+    ap (λ l. number_of l) (sym (take-append-drop n bits)) ∙ number_of-append (take n bits) back
+    ∙ ap (λ k. number_of (take n bits) * 2 ^ k + number_of back) count in
     ap (λ k. k / 2 ^ (length bits - n)) parts ∙ div-mul-add (number_of (take n bits)) (2 ^ (length bits - n)) (number_of back) less

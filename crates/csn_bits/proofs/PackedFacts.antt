@@ -1,5 +1,7 @@
 -- Bits in whole octets and the last bits of a number.
-use Rattle.std.proofs.Common.{◌≡◌, ℕ, zero, suc, ◌+◌, ◌-◌, ◌*◌, ◌/◌, ◌%◌, ◌^◌, ◌<◌, ◌≤◌, List, [], ◌∷◌, ◌++◌, length, take, drop, get_or, slice_index, sym, ap, ◌∙◌, arith, length-append, append_assoc, append-nil, take_all}
+use Rattle.std.proofs.Common.{◌≡◌, ℕ, zero, suc, ◌+◌, ◌-◌, ◌*◌, ◌/◌, ◌%◌, ◌^◌, ◌<◌, ◌≤◌, List, [], ◌∷◌, ◌++◌, length}
+use Rattle.std.proofs.Common.{take, drop, get_or, slice_index, sym, ap, ◌∙◌, arith, length-append, append_assoc}
+use Rattle.std.proofs.Common.{append-nil, take_all}
 use Rattle.std.specs.Int.Bits.{bit_or}
 use Rattle.std.proofs.Math.Seq.{take-append-add}
 use Rattle.std.proofs.Math.ListN.{get_or-append}
@@ -7,7 +9,8 @@ use Rattle.std.proofs.lemmas.Nat.{pow_pos}
 use Rattle.std.proofs.lemmas.List.{take_at, take_more, take-append-le, get_or_read, get_or-append-add}
 use Rattle.csn_bits.specs.Octets.{IsBits, bits_of_octet, bits_of_octets, octets_of}
 use Rattle.csn_bits.specs.Numbers.{low_bits}
-use Rattle.csn_bits.proofs.NumberFacts.{length-low_bits, low_bits-mod, low_bits-masked, masked_small, low_bits-first, low_bits-join, low_bits-shifted, low_bits-octet, shl_parts}
+use Rattle.csn_bits.proofs.NumberFacts.{length-low_bits, low_bits-mod, low_bits-masked, masked_small, low_bits-first}
+use Rattle.csn_bits.proofs.NumberFacts.{low_bits-join, low_bits-shifted, low_bits-octet, shl_parts}
 use Rattle.csn_bits.proofs.Packing.{octets_of-small, length-bits_of_octets, bits_of_octets-append, slice_index-bits_of_octets}
 
 pub packed_length : (octets : List ℕ) (held last : ℕ) → length (bits_of_octets octets ++ low_bits held last) ≡ 8 * length octets + held
@@ -88,7 +91,8 @@ octet_next octets at octet low small is =
     ∙ sym (bits_of_octets-append (take at octets) (octet ∷ []))
     ∙ ap (λ l. bits_of_octets l) (sym (take_more octets at 0 low ∙ ap (λ o. take at octets ++ o ∷ []) (sym is)))
 
-take_octets : (octets : List ℕ) (w r : ℕ) → take (8 * w + r) (bits_of_octets octets) ≡ bits_of_octets (take w octets) ++ take r (bits_of_octets (drop w octets))
+take_octets : (octets : List ℕ) (w r : ℕ) → take (8 * w + r) (bits_of_octets octets) ≡ bits_of_octets (take w octets)
+    ++ take r (bits_of_octets (drop w octets))
 take_octets octets zero r = (let e : 8 * 0 + r ≡ r = omega arith in ap (λ n. take n (bits_of_octets octets)) e)
 take_octets [] (suc w) r = take_all (8 * suc w + r) [] (omega arith) ∙ sym (take_all r [] (omega arith))
 take_octets (o ∷ rest) (suc w) r =
@@ -98,7 +102,8 @@ take_octets (o ∷ rest) (suc w) r =
     ∙ ap (λ l. bits_of_octet o ++ l) (take_octets rest w r)
     ∙ sym (append_assoc (bits_of_octet o) (bits_of_octets (take w rest)) (take r (bits_of_octets (drop w rest))))
 
-first_bits : (octets : List ℕ) (w r o : ℕ) → get_or octets w 0 ≡ o → w < length octets → r ≤ 8 → take r (bits_of_octets (drop w octets)) ≡ take r (bits_of_octet o)
+first_bits : (octets : List ℕ) (w r o : ℕ) → get_or octets w 0 ≡ o → w < length octets → r ≤ 8
+    → take r (bits_of_octets (drop w octets)) ≡ take r (bits_of_octet o)
 first_bits [] w r o is low few = absurd (omega arith)
 first_bits (x ∷ rest) zero r o is low few = take-append-le r (bits_of_octet x) (bits_of_octets rest) few ∙ ap (λ y. take r (bits_of_octet y)) is
 first_bits (x ∷ rest) (suc w) r o is low few = first_bits rest w r o is (omega arith) few
@@ -115,11 +120,13 @@ whole_leaf octets leaf len is whole =
     sym (append-nil (bits_of_octets (take (len / 8) octets))) ∙ sym (take_octets octets (len / 8) 0) ∙ ap (λ n. take n (bits_of_octets octets)) e ∙ is
 
 -- they end within an octet
-pub part_leaf : (octets leaf : List ℕ) (len octet : ℕ) → take len (bits_of_octets octets) ≡ leaf → len / 8 < length octets → octet < 256 → octet ≡ slice_index octets (len / 8)
+pub part_leaf : (octets leaf : List ℕ) (len octet : ℕ) → take len (bits_of_octets octets) ≡ leaf
+    → len / 8 < length octets → octet < 256 → octet ≡ slice_index octets (len / 8)
     → bits_of_octets (take (len / 8) octets) ++ low_bits (len % 8) (octet / 2 ^ (8 - len % 8)) ≡ leaf
 part_leaf octets leaf len octet is low small here =
     let e : 8 * (len / 8) + len % 8 ≡ len = omega arith in
-    ap (λ l. bits_of_octets (take (len / 8) octets) ++ l) (sym (first_of_octet (len % 8) octet (omega arith) small) ∙ sym (first_bits octets (len / 8) (len % 8) octet (sym here) low (omega arith)))
+    ap (λ l. bits_of_octets (take (len / 8) octets) ++ l) (sym (first_of_octet (len % 8) octet (omega arith) small)
+    ∙ sym (first_bits octets (len / 8) (len % 8) octet (sym here) low (omega arith)))
     ∙ sym (take_octets octets (len / 8) (len % 8)) ∙ ap (λ n. take n (bits_of_octets octets)) e ∙ is
 
 -- ---- the bits handed over

@@ -1,5 +1,8 @@
 -- What is written, and block lines.
-use Rattle.std.proofs.Common.{◌≡◌, ℕ, zero, suc, ◌+◌, ◌-◌, ◌*◌, ◌/◌, ◌%◌, ◌^◌, ◌<◌, ◌≤◌, ◌==◌, nat_lt, nat_le, Bool, true, false, not, ◌&&◌, ◌||◌, List, [], ◌∷◌, ◌++◌, length, take, map, get_or, slice_index, codes, Option, Some, None, unwrap_or, is_some, refl, sym, ap, subst, ◌∙◌, arith, append-nil, length-append, eqb-true, inl, inr}
+use Rattle.std.proofs.Common.{◌≡◌, ℕ, zero, suc, ◌+◌, ◌-◌, ◌*◌, ◌/◌, ◌%◌, ◌^◌, ◌<◌, ◌≤◌, ◌==◌, nat_lt, nat_le, Bool}
+use Rattle.std.proofs.Common.{true, false, not, ◌&&◌, ◌||◌, List, [], ◌∷◌, ◌++◌, length, take, map, get_or}
+use Rattle.std.proofs.Common.{slice_index, codes, Option, Some, None, unwrap_or, is_some, refl, sym, ap, subst, ◌∙◌}
+use Rattle.std.proofs.Common.{arith, append-nil, length-append, eqb-true, inl, inr}
 use Rattle.std.proofs.lemmas.Bool.{agree_below_at, and_left, and_parts, cases_Bool, cases_lt, lt-leb, leb-true, ltb-true}
 use Rattle.std.proofs.lemmas.List.{get_or_push, length_push, length-take, length-take-le, map-append, take_all}
 use Rattle.hex.specs.Hex.{encode_upper, encode_with, hex_digit_value, is_hex_digit, upper_digits}
@@ -11,7 +14,8 @@ use Rattle.csn_bits.specs.declared.feed.HexStep.TheVariants.{Nothing, Octet}
 use Rattle.csn_bits.proofs.Digits.{last_parts, leading-all, leading-stop, length-octets_even}
 use Rattle.csn_bits.proofs.Faults.{IsWhole}
 use Rattle.csn_bits.proofs.HexDigits.{high_fails}
-use Rattle.csn_bits.proofs.Packing.{AreOctets, Packs, packs_from, length-packed, IsBits-append, IsBits-bits_of_octet, IsBits-bits_of_octets, IsBits-take, length-bits_of_octets, octet_of-bits_of_octet}
+use Rattle.csn_bits.proofs.Packing.{AreOctets, Packs, packs_from, length-packed, IsBits-append, IsBits-bits_of_octet}
+use Rattle.csn_bits.proofs.Packing.{IsBits-bits_of_octets, IsBits-take, length-bits_of_octets, octet_of-bits_of_octet}
 
 -- ---- one digit
 
@@ -110,7 +114,8 @@ counting_byte byte used counts = elim (cases_Bool (nat_le 49 byte && nat_le byte
 ]
 
 -- it stands in upper case, and is written for so many bits
-tail_in_upper : (tail : Option (List ℕ)) (used before : ℕ) → bits_of_tail tail ≡ Some used → map upper (tail_text tail) ≡ tail_written ((8 * before + used) % 8)
+tail_in_upper : (tail : Option (List ℕ)) (used before : ℕ) → bits_of_tail tail ≡ Some used
+    → map upper (tail_text tail) ≡ tail_written ((8 * before + used) % 8)
 tail_in_upper None used before counts =
     let eight : 8 ≡ used = cc in
     let none : (8 * before + used) % 8 ≡ 0 = omega arith in
@@ -229,7 +234,9 @@ few_given : (line : List ℕ) → length (octets_given line) ≤ 65536
 few_given line = few_taken 65536 (all_but_last (octets_of_digits (leading_digits line)))
 
 pub kept_few : (line octets : List ℕ) (count : ℕ) → octets ≡ octets_given line → count ≡ length octets → count ≤ 65536
-kept_few line octets count given counted = (let few = few_given line in let same : count ≡ length (octets_given line) = counted ∙ ap length given in subst (λ (n : ℕ). n ≤ 65536) (sym same) few)
+kept_few line octets count given counted =
+    (let few = few_given line in let same : count ≡ length (octets_given line) = counted ∙ ap length given in
+    subst (λ (n : ℕ). n ≤ 65536) (sym same) few)
 
 -- a whole line ends with its last octet
 pub ends_with : (digits : List ℕ) (tail : Option (List ℕ)) (octet used : ℕ) → IsWhole digits tail octet used

@@ -3,7 +3,9 @@
 --
 -- `.` is the block without bits. Any other block has two digits for each octet, the high four bits
 -- first, and `/n` after them where only the first n bits of the last octet belong to the block.
-use Rattle.std.specs.Prelude.{◌≡◌, refl, ℕ, zero, suc, ◌+◌, ◌-◌, ◌*◌, ◌%◌, ◌≤◌, ◌==◌, nat_le, nat_lt, Bool, false, ◌&&◌, ◌||◌, not, if◌then◌else◌, List, [], ◌∷◌, ◌++◌, length, drop, map, sum, codes, Option, Some, None, unwrap_or, is_none, option_map}
+use Rattle.std.specs.Prelude.{◌≡◌, refl, ℕ, zero, suc, ◌+◌, ◌-◌, ◌*◌, ◌%◌, ◌≤◌, ◌==◌, nat_le, nat_lt, Bool, false}
+use Rattle.std.specs.Prelude.{◌&&◌, ◌||◌, not, if◌then◌else◌, List, [], ◌∷◌, ◌++◌, length, drop, map, sum, codes}
+use Rattle.std.specs.Prelude.{Option, Some, None, unwrap_or, is_none, option_map}
 use Rattle.std.specs.List.{position_from}
 use Rattle.std.proofs.Common.{lit≤}
 use Rattle.hex.specs.Hex.{encode_upper, encode_with, hex_digit_value, is_hex_digit}

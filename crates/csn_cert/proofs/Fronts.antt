@@ -30,7 +30,9 @@ pub record GoesOn {A : Type 0} (Is : A → Type 0) (text_of : A → List ℕ) (f
   pub is : all ≡ front ++ tail
   pub spelled : rest ≡ flat_map text_of tail ++ behind
 
-goes_further : {A : Type 0} (Is : A → Type 0) (text_of : A → List ℕ) (x y : A) (front all : List A) (rest behind : List ℕ) → x ≡ y → GoesOn Is text_of front all rest behind → GoesOn Is text_of (x ∷ front) (y ∷ all) rest behind
+goes_further : {A : Type 0} (Is : A → Type 0) (text_of : A → List ℕ) (x y : A) (front all : List A)
+    (rest behind : List ℕ) → x ≡ y → GoesOn Is text_of front all rest behind → GoesOn Is text_of (x ∷ front) (y ∷ all)
+    rest behind
 goes_further Is text_of x y front all rest behind same later =
     record {
       tail = later.tail;
@@ -39,7 +41,10 @@ goes_further Is text_of x y front all rest behind same later =
       spelled = later.spelled;
     }
 
-pub goes_on : {A : Type 0} (Is : A → Type 0) (text_of : A → List ℕ) → Tells Is text_of → (front all : List A) (rest behind : List ℕ) → AllByRecursion Is front → AllByRecursion Is all → ((x : A) (after : List ℕ) → text_of x ++ after ≡ behind → ⊥) → flat_map text_of front ++ rest ≡ flat_map text_of all ++ behind → GoesOn Is text_of front all rest behind
+pub goes_on : {A : Type 0} (Is : A → Type 0) (text_of : A → List ℕ)
+    → Tells Is text_of → (front all : List A) (rest behind : List ℕ) → AllByRecursion Is front → AllByRecursion Is all
+    → ((x : A) (after : List ℕ) → text_of x ++ after ≡ behind → ⊥)
+    → flat_map text_of front ++ rest ≡ flat_map text_of all ++ behind → GoesOn Is text_of front all rest behind
 goes_on Is text_of tells [] all rest behind each each' ends same = record { tail = all; each = each'; is = refl; spelled = same }
 goes_on Is text_of tells (x ∷ front) [] rest behind each each' ends same =
     absurd (ends x (flat_map text_of front ++ rest) (sym (append_assoc (text_of x) (flat_map text_of front) rest) ∙ same))

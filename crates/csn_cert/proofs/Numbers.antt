@@ -27,7 +27,8 @@ pub number_tells : (count : ℕ) → Tells (IsNumber count) (number_text count)
 number_tells count m n a b small small' same =
     let digits : digits_text count m ++ a ≡ digits_text count n ++ b = tails 32 32 (digits_text count m ++ a) (digits_text count n ++ b) same in
     let long : length (digits_text count m) ≡ length (digits_text count n) = length-digits_text count m ∙ sym (length-digits_text count n) in
-    let bits : low_bits count m ≡ low_bits count n = digits_same (low_bits count m) (low_bits count n) (front_same (digits_text count m) (digits_text count n) a b long digits) in (
+    let bits : low_bits count m ≡ low_bits count n = digits_same (low_bits count m) (low_bits count n)
+    (front_same (digits_text count m) (digits_text count n) a b long digits) in (
       sym (number_of-low_bits_small count m small) ∙ ap number_of bits ∙ number_of-low_bits_small count n small',
       behind_same (digits_text count m) (digits_text count n) a b long digits,
     )
@@ -41,14 +42,19 @@ octet_tells m n a b is is' same =
 -- ---- as they are read
 
 -- one digit more
-pub digits_more : (text rest after : List ℕ) (count number bit : ℕ) → bit ≤ 1 → text ≡ digits_text count number ++ rest → rest ≡ (48 + bit) ∷ after → text ≡ digits_text (suc count) (2 * number + bit) ++ after
+pub digits_more : (text rest after : List ℕ) (count number bit : ℕ)
+    → bit ≤ 1 → text ≡ digits_text count number ++ rest → rest ≡ (48 + bit) ∷ after → text ≡ digits_text (suc count)
+    (2 * number + bit) ++ after
 digits_more text rest after count number bit is read next =
     let half : (2 * number + bit) / 2 ≡ number = omega arith in
     let last : (2 * number + bit) % 2 ≡ bit = omega arith in
     let pushed : digits_text (suc count) (2 * number + bit) ≡ digits_text count number ++ (48 + bit) ∷ [] =
-    ap (map (λ b. 48 + b)) (low_bits-push count (2 * number + bit) ∙ ap (λ n. low_bits count n ++ (2 * number + bit) % 2 ∷ []) half ∙ ap (λ d. low_bits count number ++ d ∷ []) last)
+    ap (map (λ b. 48 + b)) (low_bits-push count (2 * number + bit)
+    ∙ ap (λ n. low_bits count n ++ (2 * number + bit) % 2 ∷ []) half ∙ ap (λ d. low_bits count number ++ d ∷ [])
+    last)
     ∙ map_push (low_bits count number) bit in
-    read ∙ ap (λ l. digits_text count number ++ l) next ∙ sym (append_assoc (digits_text count number) ((48 + bit) ∷ []) after) ∙ ap (λ l. l ++ after) (sym pushed)
+    read ∙ ap (λ l. digits_text count number ++ l) next
+    ∙ sym (append_assoc (digits_text count number) ((48 + bit) ∷ []) after) ∙ ap (λ l. l ++ after) (sym pushed)
   where
     map_push : (bits : List ℕ) (bit : ℕ) → map (λ b. 48 + b) (bits ++ bit ∷ []) ≡ map (λ b. 48 + b) bits ++ (48 + bit) ∷ []
     map_push [] bit = refl
@@ -64,12 +70,16 @@ pub record DigitStands (rest : List ℕ) : Type 0 where
   pub is : bit ≤ 1
   pub spelled : rest ≡ (48 + bit) ∷ after
 
-within_digits : (bits front rest behind : List ℕ) → IsBits bits → length front < length bits → front ++ rest ≡ map (λ b. 48 + b) bits ++ behind → DigitStands rest
+within_digits : (bits front rest behind : List ℕ) → IsBits bits → length front < length bits
+    → front ++ rest ≡ map (λ b. 48 + b) bits ++ behind → DigitStands rest
 within_digits [] front rest behind is more same = absurd (omega arith)
 within_digits (b ∷ bits) [] rest behind is more same = record { bit = b; after = map (λ d. 48 + d) bits ++ behind; is = omega (arith, is.0); spelled = same }
 within_digits (b ∷ bits) (f ∷ front) rest behind is more same =
     within_digits bits front rest behind is.1 (omega arith) (tails f (48 + b) (front ++ rest) (map (λ d. 48 + d) bits ++ behind) same)
 
-pub digit_next : (count done number whole : ℕ) (text rest behind : List ℕ) → done < count → text ≡ digits_text done number ++ rest → text ≡ digits_text count whole ++ behind → DigitStands rest
+pub digit_next : (count done number whole : ℕ) (text rest behind : List ℕ)
+    → done < count → text ≡ digits_text done number ++ rest → text ≡ digits_text count whole ++ behind
+    → DigitStands rest
 digit_next count done number whole text rest behind more read same =
-    within_digits (low_bits count whole) (digits_text done number) rest behind (IsBits-low_bits count whole) (omega (arith, length-digits_text done number, length-low_bits count whole)) (sym read ∙ same)
+    within_digits (low_bits count whole) (digits_text done number) rest behind (IsBits-low_bits count whole)
+    (omega (arith, length-digits_text done number, length-low_bits count whole)) (sym read ∙ same)

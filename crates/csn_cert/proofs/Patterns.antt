@@ -1,5 +1,6 @@
 -- How patterns are kept, and their texts.
-use Rattle.std.proofs.Common.{◌≡◌, ℕ, suc, ◌+◌, ◌-◌, ◌<◌, List, [], ◌∷◌, ◌++◌, length, take, set, replicate, refl, sym, ap, ◌∙◌, arith, append_assoc, map, codes, slice_get, Some}
+use Rattle.std.proofs.Common.{◌≡◌, ℕ, suc, ◌+◌, ◌-◌, ◌<◌, List, [], ◌∷◌, ◌++◌, length, take, set, replicate, refl}
+use Rattle.std.proofs.Common.{sym, ap, ◌∙◌, arith, append_assoc, map, codes, slice_get, Some}
 use Rattle.std.proofs.Math.Seq.{take-suc}
 use Rattle.std.proofs.lemmas.Option.{slice_get_within, get_or_from_slice_get}
 use Rattle.std.proofs.lemmas.List.{length-set, length-take-le, take_more_set, length-append}
@@ -15,12 +16,14 @@ set_behind : (front : List Mark) (mark : Mark) → length front < MOST_MARKS →
 set_behind front mark room =
     let left : MOST_MARKS - length front ≡ suc (MOST_MARKS - (length front + 1)) = omega arith in
     let count : length (front ++ mark ∷ []) ≡ length front + 1 = length-append front (mark ∷ []) in
-    rw (left, count) (set-append_seam front Zero (replicate (MOST_MARKS - (length front + 1)) Zero) mark ∙ sym (append_assoc front (mark ∷ []) (replicate (MOST_MARKS - (length front + 1)) Zero)))
+    rw (left, count) (set-append_seam front Zero (replicate (MOST_MARKS - (length front + 1)) Zero) mark ∙ sym
+    (append_assoc front (mark ∷ []) (replicate (MOST_MARKS - (length front + 1)) Zero)))
 
 pub IsFilled-push : (marks : List Mark) (len : ℕ) (mark : Mark) → IsFilled marks len → len < MOST_MARKS → IsFilled (set marks len mark) (len + 1)
 IsFilled-push marks len mark is room =
     let count : length (take len marks) ≡ len = length-take-le len marks (omega (arith, is.twelve)) in
-    let written : set (filled (take len marks)) (length (take len marks)) mark ≡ filled (take len marks ++ mark ∷ []) = set_behind (take len marks) mark (omega (arith, count)) in
+    let written : set (filled (take len marks)) (length (take len marks)) mark ≡ filled
+    (take len marks ++ mark ∷ []) = set_behind (take len marks) mark (omega (arith, count)) in
     record {
       few = omega arith;
       twelve = length-set marks len mark ∙ is.twelve;

@@ -50,22 +50,27 @@ end_tells v w a b same = (end_same v w (heads (end_character v) (end_character w
 -- ---- words
 
 -- marks up to where no mark stands
-pub word_tells : (ms ns : List Mark) (a b : List ℕ) → BeginsNoMark a → BeginsNoMark b → map mark_character ms ++ a ≡ map mark_character ns ++ b → (ms ≡ ns) × (a ≡ b)
+pub word_tells : (ms ns : List Mark) (a b : List ℕ) → BeginsNoMark a → BeginsNoMark b
+    → map mark_character ms ++ a ≡ map mark_character ns ++ b → (ms ≡ ns) × (a ≡ b)
 word_tells [] [] a b never never' same = (refl, same)
 word_tells [] (n ∷ ns) a b never never' same = absurd (never n (map mark_character ns ++ b) same)
 word_tells (m ∷ ms) [] a b never never' same = absurd (never' m (map mark_character ms ++ a) (sym same))
 word_tells (m ∷ ms) (n ∷ ns) a b never never' same =
     let first : m ≡ n = mark_same m n (heads (mark_character m) (mark_character n) (map mark_character ms ++ a) (map mark_character ns ++ b) same) in
-    let later = word_tells ms ns a b never never' (tails (mark_character m) (mark_character n) (map mark_character ms ++ a) (map mark_character ns ++ b) same) in
+    let later = word_tells ms ns a b never never' (tails (mark_character m) (mark_character n)
+    (map mark_character ms ++ a) (map mark_character ns ++ b) same) in
     (ap (λ x. x ∷ ms) first ∙ ap (λ l. n ∷ l) later.0, later.1)
 
 -- where a mark follows marks, the word is longer
-pub word_longer : (ms ns : List Mark) (m : Mark) (a b : List ℕ) → BeginsNoMark b → map mark_character ms ++ mark_character m ∷ a ≡ map mark_character ns ++ b → length ms < length ns
+pub word_longer : (ms ns : List Mark) (m : Mark) (a b : List ℕ)
+    → BeginsNoMark b → map mark_character ms ++ mark_character m ∷ a ≡ map mark_character ns ++ b
+    → length ms < length ns
 word_longer [] [] m a b never same = absurd (never m a (sym same))
 word_longer [] (n ∷ ns) m a b never same = omega arith
 word_longer (x ∷ ms) [] m a b never same = absurd (never x (map mark_character ms ++ mark_character m ∷ a) (sym same))
 word_longer (x ∷ ms) (n ∷ ns) m a b never same =
-    let later = word_longer ms ns m a b never (tails (mark_character x) (mark_character n) (map mark_character ms ++ mark_character m ∷ a) (map mark_character ns ++ b) same) in
+    let later = word_longer ms ns m a b never (tails (mark_character x) (mark_character n)
+    (map mark_character ms ++ mark_character m ∷ a) (map mark_character ns ++ b) same) in
     omega (arith, later)
 
 -- where no mark stands, no word does
@@ -81,39 +86,57 @@ no_marks_text (m ∷ ms) a none = absurd (omega arith)
 -- ---- patterns
 
 -- a text that begins with `e` begins with no pattern but an empty one
-empty_parts : (marks : List Mark) (whole : Bool) (text behind : List ℕ) → 101 ∷ text ≡ marks_text marks ++ end_character whole ∷ behind → (marks ≡ []) × (text ≡ end_character whole ∷ behind)
+empty_parts : (marks : List Mark) (whole : Bool) (text behind : List ℕ)
+    → 101 ∷ text ≡ marks_text marks ++ end_character whole ∷ behind → (marks ≡ [])
+    × (text ≡ end_character whole ∷ behind)
 empty_parts [] whole text behind same = (refl, tails 101 101 text (end_character whole ∷ behind) same)
-empty_parts (m ∷ ms) whole text behind same = absurd (empty_is_no_mark m (heads 101 (mark_character m) text (map mark_character ms ++ end_character whole ∷ behind) same))
+empty_parts (m ∷ ms) whole text behind same =
+    absurd (empty_is_no_mark m
+    (heads 101 (mark_character m) text (map mark_character ms ++ end_character whole ∷ behind) same))
 
 pub empty_pattern : (p : PatternV) (text behind : List ℕ) → 101 ∷ text ≡ pattern_text p ++ behind → (p.marks ≡ []) × (text ≡ end_character p.whole ∷ behind)
 empty_pattern p text behind same = empty_parts p.marks p.whole text behind (same ∙ append_assoc (marks_text p.marks) (end_character p.whole ∷ []) behind)
 
-word_parts : (marks : List Mark) (whole : Bool) (text behind : List ℕ) → ((after : List ℕ) → text ≡ 101 ∷ after → ⊥) → text ≡ marks_text marks ++ end_character whole ∷ behind → (0 < length marks) × (text ≡ map mark_character marks ++ end_character whole ∷ behind)
+word_parts : (marks : List Mark) (whole : Bool) (text behind : List ℕ) → ((after : List ℕ) → text ≡ 101 ∷ after → ⊥)
+    → text ≡ marks_text marks ++ end_character whole ∷ behind → (0 < length marks)
+    × (text ≡ map mark_character marks ++ end_character whole ∷ behind)
 word_parts [] whole text behind never same = absurd (never (end_character whole ∷ behind) same)
 word_parts (m ∷ ms) whole text behind never same = (omega arith, same)
 
 -- one that does not begins with a word and an end
-pub word_pattern : (p : PatternV) (text behind : List ℕ) → IsPattern p → ((after : List ℕ) → text ≡ 101 ∷ after → ⊥) → text ≡ pattern_text p ++ behind → IsWord p.marks × (text ≡ map mark_character p.marks ++ end_character p.whole ∷ behind)
+pub word_pattern : (p : PatternV) (text behind : List ℕ) → IsPattern p → ((after : List ℕ) → text ≡ 101 ∷ after → ⊥)
+    → text ≡ pattern_text p ++ behind → IsWord p.marks
+    × (text ≡ map mark_character p.marks ++ end_character p.whole ∷ behind)
 word_pattern p text behind is never same =
     let found = word_parts p.marks p.whole text behind never (same ∙ append_assoc (marks_text p.marks) (end_character p.whole ∷ []) behind) in
     (record { some = found.0; few = is }, found.1)
 
 -- the text of a word and an end
-spelled_parts : (marks : List Mark) (whole : Bool) (text rest behind : List ℕ) → 0 < length marks → text ≡ map mark_character marks ++ rest → rest ≡ end_character whole ∷ behind → text ≡ marks_text marks ++ end_character whole ∷ behind
+spelled_parts : (marks : List Mark) (whole : Bool) (text rest behind : List ℕ)
+    → 0 < length marks → text ≡ map mark_character marks ++ rest → rest ≡ end_character whole ∷ behind
+    → text ≡ marks_text marks ++ end_character whole ∷ behind
 spelled_parts [] whole text rest behind some same end = absurd (omega arith)
 spelled_parts (m ∷ ms) whole text rest behind some same end = same ∙ ap (λ l. map mark_character (m ∷ ms) ++ l) end
 
-pub spelled_word : (marks : List Mark) (whole : Bool) (text rest behind : List ℕ) → 0 < length marks → text ≡ map mark_character marks ++ rest → rest ≡ end_character whole ∷ behind → text ≡ pattern_text (record { marks = marks; whole = whole }) ++ behind
-spelled_word marks whole text rest behind some same end = spelled_parts marks whole text rest behind some same end ∙ sym (append_assoc (marks_text marks) (end_character whole ∷ []) behind)
+pub spelled_word : (marks : List Mark) (whole : Bool) (text rest behind : List ℕ)
+    → 0 < length marks → text ≡ map mark_character marks ++ rest → rest ≡ end_character whole ∷ behind
+    → text ≡ pattern_text (record { marks = marks; whole = whole }) ++ behind
+spelled_word marks whole text rest behind some same end = spelled_parts marks whole text rest behind some same end
+    ∙ sym (append_assoc (marks_text marks) (end_character whole ∷ []) behind)
 
 -- ---- patterns are told apart
 
-marks_tell : (ms ns : List Mark) (v w : Bool) (a b : List ℕ) → marks_text ms ++ end_character v ∷ a ≡ marks_text ns ++ end_character w ∷ b → (ms ≡ ns) × (v ≡ w) × (a ≡ b)
+marks_tell : (ms ns : List Mark) (v w : Bool) (a b : List ℕ)
+    → marks_text ms ++ end_character v ∷ a ≡ marks_text ns ++ end_character w ∷ b → (ms ≡ ns) × (v ≡ w) × (a ≡ b)
 marks_tell [] [] v w a b same =
     let ends = end_tells v w a b (tails 101 101 (end_character v ∷ a) (end_character w ∷ b) same) in
     (refl, ends.0, ends.1)
-marks_tell [] (n ∷ ns) v w a b same = absurd (empty_is_no_mark n (heads 101 (mark_character n) (end_character v ∷ a) (map mark_character ns ++ end_character w ∷ b) same))
-marks_tell (m ∷ ms) [] v w a b same = absurd (empty_is_no_mark m (sym (heads (mark_character m) 101 (map mark_character ms ++ end_character v ∷ a) (end_character w ∷ b) same)))
+marks_tell [] (n ∷ ns) v w a b same =
+    absurd (empty_is_no_mark n (heads 101 (mark_character n) (end_character v ∷ a)
+    (map mark_character ns ++ end_character w ∷ b) same))
+marks_tell (m ∷ ms) [] v w a b same =
+    absurd (empty_is_no_mark m (sym (heads (mark_character m) 101 (map mark_character ms ++ end_character v ∷ a)
+    (end_character w ∷ b) same)))
 marks_tell (m ∷ ms) (n ∷ ns) v w a b same =
     let words = word_tells (m ∷ ms) (n ∷ ns) (end_character v ∷ a) (end_character w ∷ b) (end_begins_no_mark v a) (end_begins_no_mark w b) same in
     let ends = end_tells v w a b words.1 in

@@ -59,7 +59,9 @@ impl Model for Pattern {
     ghost use Rattle.std.specs.Prelude.{ℕ, List, ◌≡◌};
     ghost use Rattle.std.proofs.Common.{ap, ◌∙◌};
 
-    ghost inverse_ok = { λ p h. ap (λ m. record { marks = m; len = length (take p.len p.marks); whole = p.whole }) (filled_back p.marks p.len h).0 ∙ ap (λ n. record { marks = p.marks; len = n; whole = p.whole }) (filled_back p.marks p.len h).1 };
+    ghost inverse_ok = { λ p h. ap (λ m. record { marks = m; len = length (take p.len p.marks); whole = p.whole })
+        (filled_back p.marks p.len h).0 ∙ ap (λ n. record { marks = p.marks; len = n; whole = p.whole })
+        (filled_back p.marks p.len h).1 };
 }
 
 /// Patterns are compared by their texts.

@@ -6,7 +6,9 @@ ghost use Rattle.csn_cert.specs.PatternText.{ComesBefore, pattern_text};
 ghost use Rattle.csn_cert.specs.CertificateV.{NodeV, IsPattern, IsPosition, IsNode, IsCertificate};
 ghost use Rattle.csn_cert.specs.CertificateText.{CertificateText, position_text, node_text, nodes_text};
 ghost use Rattle.csn_cert.specs.Growing.{last_of};
-ghost use Rattle.csn_cert.specs.Reading.{Refuses, Stands, Lacks, Anything, BeginsNoMark, BeginsNoPosition, IsNoText, IsNumber, number_text, IsOctet, octet_text, IsWord, word_text, IsEnd, end_text, ArePatterns, patterns_line, ArePositions};
+ghost use Rattle.csn_cert.specs.Reading.{Refuses, Stands, Lacks, Anything, BeginsNoMark, BeginsNoPosition, IsNoText};
+ghost use Rattle.csn_cert.specs.Reading.{IsNumber, number_text, IsOctet, octet_text, IsWord, word_text, IsEnd};
+ghost use Rattle.csn_cert.specs.Reading.{end_text, ArePatterns, patterns_line, ArePositions};
 
 use crate::certificate::{Certificate, NodeClaim, Position};
 use crate::cursor::Cursor;

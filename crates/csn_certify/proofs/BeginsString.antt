@@ -1,5 +1,6 @@
 -- Where a description has no windows, bits that are followed begin a string: each part that is still to come has one.
-use Rattle.std.proofs.Common.{◌≡◌, ℕ, zero, suc, ◌+◌, ◌*◌, true, List, [], ◌∷◌, ◌++◌, length, refl, sym, ◌∙◌, ap, subst, arith, append_assoc, append-nil, Some, slice_get}
+use Rattle.std.proofs.Common.{◌≡◌, ℕ, zero, suc, ◌+◌, ◌*◌, true, List, [], ◌∷◌, ◌++◌, length, refl, sym, ◌∙◌, ap}
+use Rattle.std.proofs.Common.{subst, arith, append_assoc, append-nil, Some, slice_get}
 use Rattle.std.specs.Prelude.{replicate}
 use Rattle.std.proofs.lemmas.List.{length-replicate}
 use Rattle.csn_bits.proofs.Packing.{IsBits-zeros}
@@ -10,8 +11,15 @@ use Rattle.csn_desc.specs.TreeV.{TreeV, row, alt, named, Trees, none, more}
 use Rattle.csn_desc.specs.Nodes.{DescV, parts_of}
 use Rattle.csn_desc.specs.Spelled.{spelled}
 use Rattle.csn_desc.specs.Values.{Values, with_value}
-use Rattle.csn_desc.specs.Means.{NMeans, NodeMeans, PartsMean, TimesMean, ManyMean, LeadMean, means_at, means_lits, means_spare, means_pad, means_null, means_field, means_rest, means_seq, means_choice, means_times, means_many, means_cut, means_trunc, means_named, parts_end, parts_next, times_end, times_next, many_end, many_next, lead_last, lead_next}
-use Rattle.csn_desc.specs.Follows.{NFollow, NodeFollows, PartsFollow, TimesFollow, ManyFollow, follows_at, follows_whole, follows_lits, follows_spare, follows_pad, follows_field, follows_seq, follows_choice, follows_times, follows_many, follows_trunc, follows_window, follows_named, parts_here, parts_later, times_here, times_later, many_here, many_later}
+use Rattle.csn_desc.specs.Means.{NMeans, NodeMeans, PartsMean, TimesMean, ManyMean, LeadMean, means_at, means_lits}
+use Rattle.csn_desc.specs.Means.{means_spare, means_pad, means_null, means_field, means_rest, means_seq, means_choice}
+use Rattle.csn_desc.specs.Means.{means_times, means_many, means_cut, means_trunc, means_named, parts_end, parts_next}
+use Rattle.csn_desc.specs.Means.{times_end, times_next, many_end, many_next, lead_last, lead_next}
+use Rattle.csn_desc.specs.Follows.{NFollow, NodeFollows, PartsFollow, TimesFollow, ManyFollow, follows_at}
+use Rattle.csn_desc.specs.Follows.{follows_whole, follows_lits, follows_spare, follows_pad, follows_field}
+use Rattle.csn_desc.specs.Follows.{follows_seq, follows_choice, follows_times, follows_many, follows_trunc}
+use Rattle.csn_desc.specs.Follows.{follows_window, follows_named, parts_here, parts_later, times_here, times_later}
+use Rattle.csn_desc.specs.Follows.{many_here, many_later}
 use Rattle.csn_desc.specs.Formed.{shows_earlier, Formed, PartsFormed, formed, formed_end, formed_next, HaveValues, IsDescription}
 use Rattle.csn_desc.proofs.BitFacts.{spelled_is_spare}
 use Rattle.csn_desc.proofs.Nodewise.{held_along, choice_formed}
@@ -82,7 +90,8 @@ module _ (d : DescV) where
     lead_empty : b ≡ [] → LeadExtended parts o v b
     lead_some : {ts : Trees} (rest : List ℕ) → LeadMean d parts o v (b ++ rest) ts → LeadExtended parts o v b
 
-  whole_of : {n : Node} {o : ℕ} {v : Values} {t : TreeV} (b rest : List ℕ) {whole : List ℕ} → whole ≡ b ++ rest → NodeMeans d n o v whole t → NodeExtended n o v b
+  whole_of : {n : Node} {o : ℕ} {v : Values} {t : TreeV} (b rest : List ℕ) {whole : List ℕ}
+      → whole ≡ b ++ rest → NodeMeans d n o v whole t → NodeExtended n o v b
   whole_of {n} {o} {v} {t} b rest is h =
       let P : List ℕ → Type 0 = λ l. NodeMeans d n o v l t in record { rest = rest; tree = t; means = subst P is h }
 
@@ -98,7 +107,9 @@ module _ (d : DescV) where
   last_lead parts (x ∷ b) rest [] is h = absurd (cc)
   last_lead parts b rest (a ∷ w) is h = let size = ap length is in lead_some rest (lead_last (omega arith) h)
 
-  next_lead : {i : ℕ} {parts : List ℕ} {o : ℕ} {v : Values} {b : List ℕ} {t : TreeV} (b1 b2 : List ℕ) → b ≡ b1 ++ b2 → NMeans d i o v b1 t → LeadExtended parts (o + length b1) (with_value d.nodes i b1 v) b2 → LeadExtended (i ∷ parts) o v b
+  next_lead : {i : ℕ} {parts : List ℕ} {o : ℕ} {v : Values} {b : List ℕ} {t : TreeV} (b1 b2 : List ℕ)
+      → b ≡ b1 ++ b2 → NMeans d i o v b1 t → LeadExtended parts (o + length b1) (with_value d.nodes i b1 v) b2
+      → LeadExtended (i ∷ parts) o v b
   next_lead [] b2 is h (lead_empty nothing) = lead_empty (is ∙ nothing)
   next_lead {i} {o = o} {v = v} {b = b} {t = t} (x ∷ b1) b2 is h (lead_empty nothing) =
       let same : b ++ [] ≡ x ∷ b1 = append-nil b ∙ is ∙ ap (λ l. (x ∷ b1) ++ l) nothing ∙ append-nil (x ∷ b1) in
@@ -117,7 +128,8 @@ module _ (known : Known) (d : DescV) (no_window : HasNoWindow d) where
     has_string : {seen : List ℕ} {round i : ℕ} (o : ℕ) (v : Values) → HaveValues v seen → Formed d.nodes seen round i → AString d i o v
     has_string o v values (formed (Lits run) at few head have room held) = at_node d (spelled run o) at (means_lits refl)
     has_string o v values (formed (Spare s) at few head have room held) = at_node d (spelled (s ∷ []) o) at (means_spare refl (spelled_is_spare d.reading s o))
-    has_string o v values (formed Pad at few head have room held) = at_node d (spelled (Low ∷ []) o) at (means_pad (omega arith) (spelled_is_spare d.reading Low o))
+    has_string o v values (formed Pad at few head have room held) = at_node d (spelled (Low ∷ []) o) at
+        (means_pad (omega arith) (spelled_is_spare d.reading Low o))
     has_string o v values (formed Null at few head have room held) = at_node d [] at (means_null refl)
     has_string {seen = seen} o v values (formed (Field unit count) at few head have room held) =
         let c = known.counts d.nodes seen v count values head.1 in
@@ -138,7 +150,8 @@ module _ (known : Known) (d : DescV) (no_window : HasNoWindow d) where
     has_string o v values (formed (Named label p) at few head have room (formed_next first others)) =
         let h = has_string o v values first in at_node d h.word at (means_named h.means)
 
-    has_strings : {seen : List ℕ} {round : ℕ} {parts : List ℕ} (o : ℕ) (v : Values) → HaveValues v seen → PartsFormed d.nodes true seen round parts → Strings d parts o v
+    has_strings : {seen : List ℕ} {round : ℕ} {parts : List ℕ} (o : ℕ) (v : Values)
+        → HaveValues v seen → PartsFormed d.nodes true seen round parts → Strings d parts o v
     has_strings o v values formed_end = record { word = []; trees = none; means = parts_end refl }
     has_strings {seen = seen} o v values (formed_next {i = i} first others) =
         let h = has_string o v values first in
@@ -150,19 +163,23 @@ module _ (known : Known) (d : DescV) (no_window : HasNoWindow d) where
         }
 
   mutual
-    extend : {seen : List ℕ} {round i o : ℕ} {b : List ℕ} (v : Values) → HaveValues v seen → Formed d.nodes seen round i → NFollow d i o v b → Extended d i o v b
+    extend : {seen : List ℕ} {round i o : ℕ} {b : List ℕ} (v : Values)
+        → HaveValues v seen → Formed d.nodes seen round i → NFollow d i o v b → Extended d i o v b
     extend {i = i} v values (formed n at few head have room held) (follows_at m is h) =
         let same : n ≡ m = cc in
         let e = node_extend i v values is (held_along d.nodes same held) h in
         record { rest = e.rest; tree = e.tree; means = means_at m is e.means }
 
-    node_extend : {seen : List ℕ} {round o : ℕ} {n : Node} {b : List ℕ} (i : ℕ) (v : Values) → HaveValues v seen → slice_get d.nodes i ≡ Some n → PartsFormed d.nodes (shows_earlier n) seen round (parts_of n) → NodeFollows d n o v b → NodeExtended d n o v b
+    node_extend : {seen : List ℕ} {round o : ℕ} {n : Node} {b : List ℕ} (i : ℕ) (v : Values)
+        → HaveValues v seen → slice_get d.nodes i ≡ Some n → PartsFormed d.nodes (shows_earlier n) seen round
+        (parts_of n) → NodeFollows d n o v b → NodeExtended d n o v b
     node_extend {b = b} i v values at held (follows_whole t h) = whole_of d b [] (sym (append-nil b)) h
     node_extend {b = b} i v values at held (follows_lits whole rest is h) = whole_of d b rest is h
     node_extend {b = b} i v values at held (follows_spare whole rest is h) = whole_of d b rest is h
     node_extend {b = b} i v values at held (follows_pad whole rest is h) = whole_of d b rest is h
     node_extend {b = b} i v values at held (follows_field whole rest is h) = whole_of d b rest is h
-    node_extend i v values at held (follows_seq h) = let e = parts_extend v values held h in record { rest = e.rest; tree = row e.trees; means = means_seq e.means }
+    node_extend i v values at held (follows_seq h) = let e = parts_extend v values held h in
+        record { rest = e.rest; tree = row e.trees; means = means_seq e.means }
     node_extend i v values at held (follows_choice {i = p} j is h) =
         let e = extend v values (choice_formed d.nodes j p held is) h in record { rest = e.rest; tree = alt j e.tree; means = means_choice is e.means }
     node_extend i v values at (formed_next first others) (follows_times n counts h) =
@@ -174,7 +191,9 @@ module _ (known : Known) (d : DescV) (no_window : HasNoWindow d) where
     node_extend i v values at (formed_next first others) (follows_named {label = label} h) =
         let e = extend v values first h in record { rest = e.rest; tree = named label e.tree; means = means_named e.means }
 
-    parts_extend : {seen : List ℕ} {round o : ℕ} {parts b : List ℕ} (v : Values) → HaveValues v seen → PartsFormed d.nodes true seen round parts → PartsFollow d parts o v b → PartsExtended d parts o v b
+    parts_extend : {seen : List ℕ} {round o : ℕ} {parts b : List ℕ} (v : Values)
+        → HaveValues v seen → PartsFormed d.nodes true seen round parts → PartsFollow d parts o v b
+        → PartsExtended d parts o v b
     parts_extend v values formed_end h = elim h [ ]
     parts_extend {seen = seen} {o = o} {b = b} v values (formed_next {i = i} first others) (parts_here h) =
         let e = extend v values first h in
@@ -193,7 +212,8 @@ module _ (known : Known) (d : DescV) (no_window : HasNoWindow d) where
           means = parts_next b1 (b2 ++ e.rest) (ap (λ l. l ++ e.rest) is ∙ append_assoc b1 b2 e.rest) h e.means;
         }
 
-    times_extend : {seen : List ℕ} {round n i o : ℕ} {b : List ℕ} (v : Values) → HaveValues v seen → Formed d.nodes seen round i → TimesFollow d n i o v b → TimesExtended d n i o v b
+    times_extend : {seen : List ℕ} {round n i o : ℕ} {b : List ℕ} (v : Values)
+        → HaveValues v seen → Formed d.nodes seen round i → TimesFollow d n i o v b → TimesExtended d n i o v b
     times_extend {n = zero} v values first (times_here some h) = absurd (omega arith)
     times_extend {n = suc m} {i = i} {o = o} {b = b} v values first (times_here some h) =
         let e = extend v values first h in
@@ -212,7 +232,8 @@ module _ (known : Known) (d : DescV) (no_window : HasNoWindow d) where
           means = times_next m over b1 (b2 ++ e.rest) (ap (λ l. l ++ e.rest) is ∙ append_assoc b1 b2 e.rest) h e.means;
         }
 
-    many_extend : {seen : List ℕ} {round i o : ℕ} {b : List ℕ} (v : Values) → HaveValues v seen → Formed d.nodes seen round i → ManyFollow d i o v b → ManyExtended d i o v b
+    many_extend : {seen : List ℕ} {round i o : ℕ} {b : List ℕ} (v : Values)
+        → HaveValues v seen → Formed d.nodes seen round i → ManyFollow d i o v b → ManyExtended d i o v b
     many_extend {b = b} v values first (many_here h) = let e = extend v values first h in one_turn d b e.rest (b ++ e.rest) refl e.means
     many_extend v values first (many_later {t = t} b1 b2 is some h hs) =
         let e = many_extend v values first hs in
@@ -222,12 +243,15 @@ module _ (known : Known) (d : DescV) (no_window : HasNoWindow d) where
           means = many_next b1 (b2 ++ e.rest) (ap (λ l. l ++ e.rest) is ∙ append_assoc b1 b2 e.rest) some h e.means;
         }
 
-    lead_extend : {seen : List ℕ} {round o : ℕ} {parts b : List ℕ} (v : Values) → HaveValues v seen → PartsFormed d.nodes true seen round parts → PartsFollow d parts o v b → LeadExtended d parts o v b
+    lead_extend : {seen : List ℕ} {round o : ℕ} {parts b : List ℕ} (v : Values)
+        → HaveValues v seen → PartsFormed d.nodes true seen round parts → PartsFollow d parts o v b
+        → LeadExtended d parts o v b
     lead_extend v values formed_end h = elim h [ ]
     lead_extend {b = b} v values (formed_next {parts = parts} first others) (parts_here h) =
         let e = extend v values first h in last_lead d parts b e.rest (b ++ e.rest) refl e.means
     lead_extend {seen = seen} v values (formed_next {i = i} first others) (parts_later b1 b2 is h hs) =
         next_lead d b1 b2 is h (lead_extend (with_value d.nodes i b1 v) (known.there d.nodes i v b1 seen values) others hs)
 
-pub string_of : Known → (d : DescV) → IsDescription d → HasNoWindow d → {b : List ℕ} → NFollow d 0 0 [] b → (rest : List ℕ) × (t : TreeV) × NMeans d 0 0 [] (b ++ rest) t
+pub string_of : Known → (d : DescV) → IsDescription d → HasNoWindow d → {b : List ℕ}
+    → NFollow d 0 0 [] b → (rest : List ℕ) × (t : TreeV) × NMeans d 0 0 [] (b ++ rest) t
 string_of known d is no_window h = let e = extend known d no_window [] (known.no_values d).0 is.well_formed h in (e.rest, e.tree, e.means)

@@ -1,5 +1,6 @@
 -- The search for the first conflict of a choice.
-use Rattle.std.proofs.Common.{◌≡◌, ℕ, ◌+◌, ◌<◌, ◌≤◌, ◌⊎◌, inl, inr, List, [], ◌∷◌, ◌++◌, length, refl, sym, ◌∙◌, ap, subst, arith, Option, Some, None, slice_get}
+use Rattle.std.proofs.Common.{◌≡◌, ℕ, ◌+◌, ◌<◌, ◌≤◌, ◌⊎◌, inl, inr, List, [], ◌∷◌, ◌++◌, length, refl, sym, ◌∙◌, ap}
+use Rattle.std.proofs.Common.{subst, arith, Option, Some, None, slice_get}
 use Rattle.std.proofs.lemmas.Option.{slice_get_within}
 use Rattle.csn_desc.specs.declared.node.Node.TheVariants.{Null, Choice}
 use Rattle.csn_desc.specs.declared.node.Node.{Node}
@@ -12,7 +13,8 @@ use Rattle.csn_certify.specs.declared.conflict.Conflict.{Conflict}
 use Rattle.csn_certify.specs.declared.conflict.Conflict.TheVariants.{TwoEmpty, NotFirm, Overlap, EmptyClash, LoopClash, NotLast}
 use Rattle.csn_certify.specs.Conflicts.{IsNull, IsConflict, two_empty, choice_not_firm, empty_clash, rank_of, NotAfter}
 use Rattle.csn_certify.specs.Search.{IsUnder, IsFirstUnder, IsNullAt, IsLeastFrom, IsClashing}
-use Rattle.csn_certify.proofs.Searching.{NoneBelow, none_of, gone_through, found_at, last_class, by_number, first_behind, least_number, first_of_one, branch_at}
+use Rattle.csn_certify.proofs.Searching.{NoneBelow, none_of, gone_through, found_at, last_class, by_number}
+use Rattle.csn_certify.proofs.Searching.{first_behind, least_number, first_of_one, branch_at}
 use Rattle.csn_certify.proofs.ConflictKinds.{ChoiceFits, choice_fits}
 
 -- what takes no bits begins with none
@@ -29,7 +31,8 @@ record Begins (d : DescV) (parts : List ℕ) (octet bit : ℕ) : Type 0 where
   is_part : slice_get parts j ≡ Some q
   start : InStart d q octet bit
 
-choice_start : (d : DescV) (node octet bit : ℕ) (parts : List ℕ) → slice_get d.nodes node ≡ Some (Choice parts) → InStart d node octet bit → Begins d parts octet bit
+choice_start : (d : DescV) (node octet bit : ℕ) (parts : List ℕ) → slice_get d.nodes node ≡ Some (Choice parts)
+    → InStart d node octet bit → Begins d parts octet bit
 choice_start d node octet bit parts at (starts_at n here h) =
     let same : n ≡ Choice parts = cc in
     of_node (subst (λ (m : Node). NodeStarts d m octet bit) same h)
@@ -69,7 +72,8 @@ module _ (d : DescV) (node : ℕ) (parts : List ℕ) (at : slice_get d.nodes nod
       let up = least_number 0 i two.i (IsNullAt d parts) least (omega arith) two.null_i in
       none two.j (omega (arith, up, less)) two.null_j
 
-  pub two_some : (i j : ℕ) → IsLeastFrom 0 (IsNullAt d parts) (Some i) → IsLeastFrom (i + 1) (IsNullAt d parts) (Some j) → IsFirstUnder d (node ∷ 1 ∷ []) (Some (TwoEmpty node i j))
+  pub two_some : (i j : ℕ) → IsLeastFrom 0 (IsNullAt d parts) (Some i)
+      → IsLeastFrom (i + 1) (IsNullAt d parts) (Some j) → IsFirstUnder d (node ∷ 1 ∷ []) (Some (TwoEmpty node i j))
   two_some i j least later =
       let null_i = least.1 in
       let null_j = later.1 in (
@@ -85,7 +89,8 @@ module _ (d : DescV) (node : ℕ) (parts : List ℕ) (at : slice_get d.nodes nod
           let up = least_number 0 i two.i (IsNullAt d parts) least (omega arith) two.null_i in
           let far = least_number (i + 1) j two.j (IsNullAt d parts) later (omega (arith, up, less)) two.null_j in
           subst (λ (e : Conflict). NotAfter (rank_of (TwoEmpty node i j)) (rank_of e)) (sym two.is)
-          (first_behind (node ∷ 1 ∷ []) (i ∷ j ∷ []) (two.i ∷ two.j ∷ []) (by_number i two.i (j ∷ []) (two.j ∷ []) up (λ same. by_number j two.j [] [] far (λ too. tt))))
+          (first_behind (node ∷ 1 ∷ []) (i ∷ j ∷ []) (two.i ∷ two.j ∷ []) (by_number i two.i (j ∷ []) (two.j ∷ []) up
+          (λ same. by_number j two.j [] [] far (λ too. tt))))
 
 -- ---- an alternative that is not firm
 
@@ -138,7 +143,8 @@ module _ (d : DescV) (node : ℕ) (parts : List ℕ) (at : slice_get d.nodes nod
         (first_of_one (rank_of (NotFirm node i)))),
   )
 
-  pub not_firm_found : (i p : ℕ) → slice_get parts i ≡ Some p → ¬ IsNull d p → IsNotFirm d 12 p → NoneBelow d (node ∷ 2 ∷ []) i → IsFirstUnder d (node ∷ 2 ∷ []) (Some (NotFirm node i))
+  pub not_firm_found : (i p : ℕ) → slice_get parts i ≡ Some p → ¬ IsNull d p → IsNotFirm d 12 p
+      → NoneBelow d (node ∷ 2 ∷ []) i → IsFirstUnder d (node ∷ 2 ∷ []) (Some (NotFirm node i))
   not_firm_found i p is_part real bad below =
       found_at d (node ∷ 2 ∷ []) i (NotFirm node i) (branch_at (node ∷ 2 ∷ []) refl) below (not_firm_at i p is_part real bad)
 
@@ -185,7 +191,8 @@ module _ (d : DescV) (node : ℕ) (parts : List ℕ) (at : slice_get d.nodes nod
   pub overlap_found : (octet : ℕ) (c : Conflict) → IsFirstUnder d (node ∷ 3 ∷ octet ∷ 3 ∷ []) (Some c) → IsFirstUnder d (node ∷ 3 ∷ octet ∷ []) (Some c)
   overlap_found octet c h = found_at d (node ∷ 3 ∷ octet ∷ []) 3 c (branch_at (node ∷ 3 ∷ octet ∷ []) refl) (below_three octet) h
 
-  pub clashes_after : (octet : ℕ) (r : Option Conflict) → IsFirstUnder d (node ∷ 3 ∷ octet ∷ 3 ∷ []) None → IsFirstUnder d (node ∷ 3 ∷ octet ∷ 4 ∷ []) r → IsFirstUnder d (node ∷ 3 ∷ octet ∷ []) r
+  pub clashes_after : (octet : ℕ) (r : Option Conflict) → IsFirstUnder d (node ∷ 3 ∷ octet ∷ 3 ∷ []) None
+      → IsFirstUnder d (node ∷ 3 ∷ octet ∷ 4 ∷ []) r → IsFirstUnder d (node ∷ 3 ∷ octet ∷ []) r
   clashes_after octet r none h =
       last_class d (node ∷ 3 ∷ octet ∷ []) 4 r (branch_at (node ∷ 3 ∷ octet ∷ []) refl) below past h
     where
@@ -202,7 +209,8 @@ module _ (d : DescV) (node : ℕ) (parts : List ℕ) (at : slice_get d.nodes nod
 
   -- ---- a clash beside an alternative that takes no bits
 
-  clash_fits : (octet : ℕ) (c : Conflict) → IsUnder (node ∷ 3 ∷ octet ∷ 4 ∷ []) c → ChoiceFits d parts c → (bit : ℕ) × (c ≡ EmptyClash node octet bit) × ((i : ℕ) × IsNullAt d parts i) × IsClashing d node node octet bit
+  clash_fits : (octet : ℕ) (c : Conflict) → IsUnder (node ∷ 3 ∷ octet ∷ 4 ∷ []) c → ChoiceFits d parts c → (bit : ℕ)
+      × (c ≡ EmptyClash node octet bit) × ((i : ℕ) × IsNullAt d parts i) × IsClashing d node node octet bit
   clash_fits octet (TwoEmpty k i j) under fits = let is = under.1 in absurd (cc)
   clash_fits octet (NotFirm k i) under fits = let is = under.1 in absurd (cc)
   clash_fits octet (Overlap k o i j v w) under fits = let is = under.1 in absurd (cc)
@@ -214,7 +222,8 @@ module _ (d : DescV) (node : ℕ) (parts : List ℕ) (at : slice_get d.nodes nod
   clash_fits octet (LoopClash k o b) under fits = absurd fits
   clash_fits octet (NotLast k o) under fits = absurd fits
 
-  of_clash : (octet : ℕ) (c : Conflict) → IsUnder (node ∷ 3 ∷ octet ∷ 4 ∷ []) c → IsConflict d 12 c → (bit : ℕ) × (c ≡ EmptyClash node octet bit) × ((i : ℕ) × IsNullAt d parts i) × IsClashing d node node octet bit
+  of_clash : (octet : ℕ) (c : Conflict) → IsUnder (node ∷ 3 ∷ octet ∷ 4 ∷ []) c → IsConflict d 12 c → (bit : ℕ)
+      × (c ≡ EmptyClash node octet bit) × ((i : ℕ) × IsNullAt d parts i) × IsClashing d node node octet bit
   of_clash octet c under holds = clash_fits octet c under (choice_fits d node (3 ∷ octet ∷ 4 ∷ []) parts c at under holds)
 
   pub no_null : (octet : ℕ) → IsLeastFrom 0 (IsNullAt d parts) None → IsFirstUnder d (node ∷ 3 ∷ octet ∷ 4 ∷ []) None
@@ -223,7 +232,9 @@ module _ (d : DescV) (node : ℕ) (parts : List ℕ) (at : slice_get d.nodes nod
   pub no_clash : (octet : ℕ) → IsLeastFrom 0 (IsClashing d node node octet) None → IsFirstUnder d (node ∷ 3 ∷ octet ∷ 4 ∷ []) None
   no_clash octet none c under holds = let h = of_clash octet c under holds in none h.0 (omega arith) h.3
 
-  pub clash_some : (octet i bit : ℕ) → Reached d node octet → IsNullAt d parts i → IsLeastFrom 0 (IsClashing d node node octet) (Some bit) → IsFirstUnder d (node ∷ 3 ∷ octet ∷ 4 ∷ []) (Some (EmptyClash node octet bit))
+  pub clash_some : (octet i bit : ℕ) → Reached d node octet → IsNullAt d parts i
+      → IsLeastFrom 0 (IsClashing d node node octet) (Some bit)
+      → IsFirstUnder d (node ∷ 3 ∷ octet ∷ 4 ∷ []) (Some (EmptyClash node octet bit))
   clash_some octet i bit reached null least = (
     (bit ∷ [], refl),
     made (choice_start d node octet bit parts at least.1.0),

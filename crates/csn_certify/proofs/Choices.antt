@@ -1,6 +1,7 @@
 -- How held bits stand to the alternatives of a choice: to one by its table of keys, and to all of them, one after
 -- another; and what look-ahead then answers.
-use Rattle.std.proofs.Common.{◌≡◌, ℕ, ◌+◌, ◌≤◌, ◌⊎◌, inl, inr, Bool, true, false, List, [], ◌∷◌, ◌++◌, length, refl, sym, ◌∙◌, ap, subst, arith, length-append, append-nil, Option, Some, None, slice_get}
+use Rattle.std.proofs.Common.{◌≡◌, ℕ, ◌+◌, ◌≤◌, ◌⊎◌, inl, inr, Bool, true, false, List, [], ◌∷◌, ◌++◌, length, refl}
+use Rattle.std.proofs.Common.{sym, ◌∙◌, ap, subst, arith, length-append, append-nil, Option, Some, None, slice_get}
 use Rattle.std.specs.Prelude.{IsTrue}
 use Rattle.std.proofs.lemmas.Option.{slice_get_within}
 use Rattle.csn_desc.specs.declared.node.Node.{Node}
@@ -65,7 +66,14 @@ module _ (d : DescV) (parts : List ℕ) (octet : ℕ) (held : List ℕ) where
           key =
               record {
                 j = j;
-                own = record { part = part; word = held ++ h.next ∷ h.back; mark = h.whole; is_part = at; key = (are (held ++ h.next ∷ h.back) h.whole h.word).0 h.key };
+                own = record {
+                  part = part;
+                  word = held ++ h.next ∷ h.back;
+                  mark = h.whole;
+                  is_part = at;
+                  key =
+                      (are (held ++ h.next ∷ h.back) h.whole h.word).0 h.key;
+                };
                 begins = (h.next ∷ h.back, refl);
                 not_all = omega (arith, longer);
               };
@@ -167,7 +175,8 @@ module _ (d : DescV) (parts : List ℕ) (octet : ℕ) (held : List ℕ) where
         }
 
     -- one more of which the held bits are the beginning of a key
-    pub among_begun : (IsNone d parts count → ⊥) → (BeginsWithKey d 12 parts octet held count → ⊥) → BeginsKeyOf d parts octet held count → Among (count + 1) none true
+    pub among_begun : (IsNone d parts count → ⊥) → (BeginsWithKey d 12 parts octet held count → ⊥)
+        → BeginsKeyOf d parts octet held count → Among (count + 1) none true
     among_begun real absent here =
         let P : ℕ → Type 0 = λ j. BeginsWithKey d 12 parts octet held j in
         let R : ℕ → Type 0 = λ j. IsNone d parts j in
@@ -180,7 +189,8 @@ module _ (d : DescV) (parts : List ℕ) (octet : ℕ) (held : List ℕ) where
         }
 
     -- one more of which they are neither
-    pub among_neither : (IsNone d parts count → ⊥) → (BeginsWithKey d 12 parts octet held count → ⊥) → (BeginsKeyOf d parts octet held count → ⊥) → Among (count + 1) none begun
+    pub among_neither : (IsNone d parts count → ⊥) → (BeginsWithKey d 12 parts octet held count → ⊥)
+        → (BeginsKeyOf d parts octet held count → ⊥) → Among (count + 1) none begun
     among_neither real absent never =
         let P : ℕ → Type 0 = λ j. BeginsWithKey d 12 parts octet held j in
         let Q : ℕ → Type 0 = λ j. BeginsKeyOf d parts octet held j in

@@ -1,5 +1,7 @@
 -- The table of a choice, from the keys of its alternatives one after another.
-use Rattle.std.proofs.Common.{◌≡◌, ℕ, ◌+◌, ◌-◌, ◌<◌, ◌≤◌, ◌⊎◌, inl, inr, true, false, List, [], ◌∷◌, ◌++◌, length, take, drop, refl, sym, ◌∙◌, ap, subst, arith, length-append, append_assoc, take-append-drop, Option, Some, None}
+use Rattle.std.proofs.Common.{◌≡◌, ℕ, ◌+◌, ◌-◌, ◌<◌, ◌≤◌, ◌⊎◌, inl, inr, true, false, List, [], ◌∷◌, ◌++◌, length}
+use Rattle.std.proofs.Common.{take, drop, refl, sym, ◌∙◌, ap, subst, arith, length-append, append_assoc}
+use Rattle.std.proofs.Common.{take-append-drop, Option, Some, None}
 use Rattle.std.proofs.lemmas.List.{length-take, take_all, append-nil}
 use Rattle.std.specs.Prelude.{IsTrue}
 use Rattle.std.proofs.lemmas.Nat.{pow_pos}
@@ -19,7 +21,8 @@ use Rattle.csn_certify.specs.Conflicts.{IsNull, IsBegunBy}
 use Rattle.csn_certify.specs.Picks.{BeginsWithKey, BeginsKey}
 use Rattle.csn_certify.specs.Choosing.{IsNone, BeginsKeyOf, StandsTo, AreWithoutKey}
 use Rattle.csn_certify.specs.PickTables.{entry_of, Tells}
-use Rattle.csn_certify.specs.Filling.{started, IsDeep, IsFilled, with_key, with_full, with_start, with_none, FillsUnder, AreEmpty, HasMarks, IsFullOf, AreDeep, AreApart}
+use Rattle.csn_certify.specs.Filling.{started, IsDeep, IsFilled, with_key, with_full, with_start, with_none}
+use Rattle.csn_certify.specs.Filling.{FillsUnder, AreEmpty, HasMarks, IsFullOf, AreDeep, AreApart}
 use Rattle.csn_certify.proofs.FillingFacts.{begins_itself, full_on, full_begins, full_fresh}
 use Rattle.csn_certify.proofs.MoreHeld.{key_on}
 use Rattle.csn_certify.proofs.Choices as choice
@@ -34,11 +37,14 @@ module _ (d : DescV) (parts : List ℕ) (octet : ℕ) where
   pub deep_null : (count width : ℕ) → IsNone d parts count → AreDeep d parts octet count width → AreDeep d parts octet (count + 1) width
   deep_null count width null deep held j is long begins none =
       elim (deep held j is long begins none) [
-        | inl late ↦ inl (choice.later d parts octet held (λ k. BeginsKeyOf d parts octet held k) (choice.begins_none_of_none d parts octet held null) begins late)
+        | inl late ↦ inl (choice.later d parts octet held (λ k. BeginsKeyOf d parts octet held k)
+            (choice.begins_none_of_none d parts octet held null) begins late)
         | inr full ↦ inr full
       ]
 
-  pub deep_more : (count width depth more : ℕ) (table word : List ℕ) → word ≡ [] → HasMarks d parts octet count table → IsDeep table word depth → width ≤ more → depth ≤ more → AreDeep d parts octet count width → AreDeep d parts octet (count + 1) more
+  pub deep_more : (count width depth more : ℕ) (table word : List ℕ) → word ≡ [] → HasMarks d parts octet count table
+      → IsDeep table word depth → width ≤ more → depth ≤ more → AreDeep d parts octet count width
+      → AreDeep d parts octet (count + 1) more
   deep_more count width depth more table word empty has below a b deep held j is long begins none =
       elim (deep held j is (omega (arith, a, long)) begins none) [
         | inl late ↦ by_place (either count j late)
@@ -50,18 +56,23 @@ module _ (d : DescV) (parts : List ℕ) (octet : ℕ) where
 
       at_count : BeginsKeyOf d parts octet held count → ¬ BeginsWithKey d 12 parts octet held count → (bits : ℕ) × IsFullOf d parts octet count held bits
       at_count its never =
-          let no_key : ¬ marks.BeginsWithKey table held = λ key. never (choice.with_key d parts octet held count has.part table has.is_part has.are has.real is key) in
-          let full = below held is (held, ap (λ l. l ++ held) (sym empty)) (omega (arith, b, long)) no_key (choice.starts_key d parts octet held count has.part table has.is_part has.are its) in
+          let no_key : ¬ marks.BeginsWithKey table held =
+          λ key. never (choice.with_key d parts octet held count has.part table has.is_part has.are has.real is
+          key) in
+          let full = below held is (held, ap (λ l. l ++ held) (sym empty)) (omega (arith, b, long)) no_key
+          (choice.starts_key d parts octet held count has.part table has.is_part has.are its) in
           (full.0, record { marks = table; has = has; none = no_key; full = full.1 })
 
       by_place : (j ≡ count) ⊎ (count + 1 ≤ j) → (count + 1 ≤ j) ⊎ ((bits : ℕ) × IsFullOf d parts octet j held bits)
       by_place (inr higher) = inl higher
       by_place (inl same) =
-          let full = at_count (subst (λ (k : ℕ). BeginsKeyOf d parts octet held k) same begins) (subst (λ (k : ℕ). ¬ BeginsWithKey d 12 parts octet held k) same none) in
+          let full = at_count (subst (λ (k : ℕ). BeginsKeyOf d parts octet held k) same begins)
+          (subst (λ (k : ℕ). ¬ BeginsWithKey d 12 parts octet held k) same none) in
           inr (full.0, subst (λ (k : ℕ). IsFullOf d parts octet k held full.0) (sym same) full.1)
 
   -- two tables of one alternative have the same keys
-  same_keys : (j : ℕ) (table other word : List ℕ) → HasMarks d parts octet j table → HasMarks d parts octet j other → marks.IsWord word → marks.IsKeyOf other word → marks.IsKeyOf table word
+  same_keys : (j : ℕ) (table other word : List ℕ) → HasMarks d parts octet j table → HasMarks d parts octet j other
+      → marks.IsWord word → marks.IsKeyOf other word → marks.IsKeyOf table word
   same_keys j table other word has its is key =
       let is_part = has.is_part in
       let also = its.is_part in
@@ -69,18 +80,22 @@ module _ (d : DescV) (parts : List ℕ) (octet : ℕ) where
       let P : ℕ → Type 0 = λ p. InKeys d 12 p octet word key.0 in
       (key.0, (has.are word key.0 is).1 (subst P same ((its.are word key.0 is).0 key.1)))
 
-  full_same : (j bits : ℕ) (table other word : List ℕ) → HasMarks d parts octet j table → HasMarks d parts octet j other → marks.IsWord word → IsFull other word bits → IsFull table word bits
+  full_same : (j bits : ℕ) (table other word : List ℕ) → HasMarks d parts octet j table
+      → HasMarks d parts octet j other → marks.IsWord word → IsFull other word bits → IsFull table word bits
   full_same j bits table other word has its is full = record {
     more = full.more;
     short = full.short;
     full = λ back b size. same_keys j table other (word ++ back) has its (word_join word back is b (omega (arith, size, full.short))) (full.full back b size);
-    none = λ back b size key. full.none back b size (same_keys j other table (word ++ back) its has (word_join word back is b (omega (arith, size, full.short))) key);
+    none = λ back b size key. full.none back b size (same_keys j other table (word ++ back) its has
+        (word_join word back is b (omega (arith, size, full.short))) key);
   }
 
   -- and so of each alternative by its table
-  pub deep_table : (j width : ℕ) (table word : List ℕ) → j < length parts → word ≡ [] → HasMarks d parts octet j table → AreDeep d parts octet (length parts) width → IsDeep table word width
+  pub deep_table : (j width : ℕ) (table word : List ℕ) → j < length parts → word ≡ [] → HasMarks d parts octet j table
+      → AreDeep d parts octet (length parts) width → IsDeep table word width
   deep_table j width table word inside empty has deep held is begun long none start =
-      elim (deep held j is long (choice.begins_key d parts octet held j has.part table has.is_part has.are start) (λ key. choice.no_key_of d parts octet held j has.part table has.is_part has.are none key)) [
+      elim (deep held j is long (choice.begins_key d parts octet held j has.part table has.is_part has.are start)
+      (λ key. choice.no_key_of d parts octet held j has.part table has.is_part has.are none key)) [
         | inl late ↦ absurd (omega (arith, late, inside))
         | inr full ↦ (full.0, full_same j full.0 table full.1.marks held has full.1.has is full.1.full)
       ]
@@ -136,7 +151,8 @@ module _ (d : DescV) (parts : List ℕ) (octet : ℕ) where
   begun_by_full j bits held is all = (one_key j bits held is all).start
 
   -- so it is with what goes on from the bits and is shorter
-  full_of_on : (j bits : ℕ) (front held : List ℕ) → marks.IsWord held → IsBegunBy held front → length held < bits → IsFullOf d parts octet j front bits → IsFullOf d parts octet j held bits
+  full_of_on : (j bits : ℕ) (front held : List ℕ) → marks.IsWord held → IsBegunBy held front → length held < bits
+      → IsFullOf d parts octet j front bits → IsFullOf d parts octet j held bits
   full_of_on j bits front held is begun few all =
       record {
         marks = all.marks;
@@ -184,7 +200,8 @@ module _ (d : DescV) (parts : List ℕ) (octet : ℕ) where
   pub nones_marks : (count : ℕ) (which : Option ℕ) (table : List ℕ) → HasMarks d parts octet count table → NonesTold count which → NonesTold (count + 1) which
   nones_marks count which table has told = record {
     is_none = told.is_none;
-    no_none = λ is j null. choice.later d parts octet [] (λ k. IsNone d parts k) (choice.not_none d parts octet [] has.is_part has.real) null (told.no_none is j null);
+    no_none = λ is j null. choice.later d parts octet [] (λ k. IsNone d parts k)
+        (choice.not_none d parts octet [] has.is_part has.real) null (told.no_none is j null);
   }
 
   -- the entry tells how the held bits stand to the first few alternatives
@@ -202,7 +219,8 @@ module _ (d : DescV) (parts : List ℕ) (octet : ℕ) where
       subst (λ (e : Entry). TellsOf 0 None held e) (sym (empty.refuse held)) (choice.among_first d parts octet held)
 
   -- one more alternative, which takes no bits
-  pub all_null : (count width : ℕ) (none : Option ℕ) (entries : List Entry) → IsNone d parts count → AllTell count none width entries → AllTell (count + 1) (Some count) width entries
+  pub all_null : (count width : ℕ) (none : Option ℕ) (entries : List Entry)
+      → IsNone d parts count → AllTell count none width entries → AllTell (count + 1) (Some count) width entries
   all_null count width none entries here all held is short = by_entry (entry_of entries held) (all held is short)
     where
       by_entry : (e : Entry) → TellsOf count none held e → TellsOf (count + 1) (Some count) held e
@@ -211,11 +229,15 @@ module _ (d : DescV) (parts : List ℕ) (octet : ℕ) where
       by_entry (Take bits j) h = h
 
   -- one more, whose keys have filled the entries
-  pub all_marks : (count width : ℕ) (none : Option ℕ) (table : List ℕ) (old new : List Entry) → HasMarks d parts octet count table → (word : List ℕ) → word ≡ [] → FillsUnder word width (IsFilled table count) old new → AllTell count none width old → AllTell (count + 1) none width new
+  pub all_marks : (count width : ℕ) (none : Option ℕ) (table : List ℕ) (old new : List Entry)
+      → HasMarks d parts octet count table → (word : List ℕ)
+      → word ≡ [] → FillsUnder word width (IsFilled table count) old new → AllTell count none width old
+      → AllTell (count + 1) none width new
   all_marks count width none table old new has word empty fills all held is short =
       by_filled (entry_of old held) (entry_of new held) (all held is short) ((fills held is short).0 (held, ap (λ l. l ++ held) (sym empty)))
     where
-      stands : (told : Begins) → (IsNull d has.part → ⊥) → marks.IsWord held → marks.IsBeginning told table held → StandsTo d parts octet held count (Some told)
+      stands : (told : Begins) → (IsNull d has.part → ⊥) → marks.IsWord held → marks.IsBeginning told table held
+          → StandsTo d parts octet held count (Some told)
       stands = choice.standing d parts octet held count has.part table has.is_part has.are
 
       partly : ((bits : ℕ) → ¬ IsFull table held bits) → (bits : ℕ) → ¬ IsFullOf d parts octet count held bits
@@ -225,7 +247,9 @@ module _ (d : DescV) (parts : List ℕ) (octet : ℕ) where
       none_begun : Among d parts octet held count none false → ArePartly count held
       none_begun h j bits less full = let late = h.begins_not refl j (begun_by_full j bits held is full) in absurd (omega (arith, late, less))
 
-      by_start : (e : Entry) → TellsOf count none held e → ¬ marks.BeginsWithKey table held → marks.StartsKey table held → ((bits : ℕ) → ¬ IsFull table held bits) → TellsOf (count + 1) none held (started e)
+      by_start : (e : Entry) → TellsOf count none held e → ¬ marks.BeginsWithKey table held
+          → marks.StartsKey table held → ((bits : ℕ) → ¬ IsFull table held bits)
+          → TellsOf (count + 1) none held (started e)
       by_start Refuse h no_key start part =
           let s = stands answer.Proper has.real is (no_key, start) in
           (choice.among_begun d parts octet held h s.0 s.1 s.2, partly_more count held (none_begun h) (partly part))
@@ -292,19 +316,26 @@ module _ (d : DescV) (parts : List ℕ) (octet : ℕ) where
   -- ---- the table
 
   -- no key begins bits behind which all words of one size are keys, since no key of another alternative begins them
-  without_key : (j bits count : ℕ) (which : Option ℕ) (held : List ℕ) → marks.IsWord held → AreApart d parts octet → NonesTold count which → length parts ≤ count → IsFullOf d parts octet j held bits → AreWithoutKey d parts octet held which true
+  without_key : (j bits count : ℕ) (which : Option ℕ) (held : List ℕ) → marks.IsWord held → AreApart d parts octet
+      → NonesTold count which → length parts ≤ count → IsFullOf d parts octet j held bits
+      → AreWithoutKey d parts octet held which true
   without_key j bits count which held is apart told all full =
       let one = one_key j bits held is full in
       record {
         no_key = λ k key.
             let same : k ≡ j = apart (held ++ one.back) k j (key_on d 12 (one.back, refl) key) one.key in
-            choice.no_key_of d parts octet held j full.has.part full.marks full.has.is_part full.has.are full.none (subst (λ (i : ℕ). BeginsWithKey d 12 parts octet held i) same key);
+            choice.no_key_of d parts octet held j full.has.part full.marks full.has.is_part full.has.are full.none
+            (subst (λ (i : ℕ). BeginsWithKey d 12 parts octet held i) same key);
         is_none = told.is_none;
-        no_none = λ is_none i null. let late = told.no_none is_none i null in let inside = slice_get_within parts i null.part null.is_part in omega (arith, late, inside, all);
+        no_none = λ is_none i null. let late = told.no_none is_none i null in let inside =
+            slice_get_within parts i null.part null.is_part in omega (arith, late, inside, all);
         begins = ((λ is_begun. one.start.key), (λ start. refl));
       }
 
-  pub table_done : (looked count width : ℕ) (none : Option ℕ) (entries : List Entry) → AreApart d parts octet → NonesTold count none → AreDeep d parts octet looked width → length parts ≤ looked → length parts ≤ count → AllTell count none width entries → (held : List ℕ) → marks.IsWord held → Tells d parts octet held none (entry_of entries (take width held))
+  pub table_done : (looked count width : ℕ) (none : Option ℕ) (entries : List Entry)
+      → AreApart d parts octet → NonesTold count none → AreDeep d parts octet looked width → length parts ≤ looked
+      → length parts ≤ count → AllTell count none width entries → (held : List ℕ)
+      → marks.IsWord held → Tells d parts octet held none (entry_of entries (take width held))
   table_done looked count width none entries apart told deep whole_looked all tells held is = by_entry (entry_of entries front) (tells front is_front short)
     where
       front : List ℕ
@@ -325,8 +356,10 @@ module _ (d : DescV) (parts : List ℕ) (octet : ℕ) where
       full : width < length held → length front ≡ width
       full many = let size = length-take width held in omega (arith, size, many)
 
-      by_size : (length held ≤ width) ⊎ (width < length held) → Among d parts octet front count none true → ArePartly count front → AreWithoutKey d parts octet held none true
-      by_size (inl few) h partly = subst (λ (l : List ℕ). AreWithoutKey d parts octet l none true) (sym (whole few)) (choice.among_all d parts octet front h all)
+      by_size : (length held ≤ width) ⊎ (width < length held) → Among d parts octet front count none true
+          → ArePartly count front → AreWithoutKey d parts octet held none true
+      by_size (inl few) h partly = subst (λ (l : List ℕ). AreWithoutKey d parts octet l none true) (sym (whole few))
+          (choice.among_all d parts octet front h all)
       by_size (inr many) h partly =
           let a = choice.among_all d parts octet front h all in
           let start = a.begins.0 refl in
@@ -340,7 +373,8 @@ module _ (d : DescV) (parts : List ℕ) (octet : ℕ) where
       either : (m n : ℕ) → (m ≤ n) ⊎ (n < m)
       either m n = grind arith
 
-      by_take : (j bits : ℕ) → ((bits ≤ length front) × BeginsWithKey d 12 parts octet front j) ⊎ IsFullOf d parts octet j front bits → Tells d parts octet held none (Take bits j)
+      by_take : (j bits : ℕ) → ((bits ≤ length front) × BeginsWithKey d 12 parts octet front j)
+          ⊎ IsFullOf d parts octet j front bits → Tells d parts octet held none (Take bits j)
       by_take j bits (inl h) =
           let size = ap length begun.1 in
           let less = h.0 in (
@@ -348,7 +382,9 @@ module _ (d : DescV) (parts : List ℕ) (octet : ℕ) where
             (λ few. absurd (omega (arith, size, less, few, length-append front begun.0))),
           )
       by_take j bits (inr all_keys) = (
-        (λ enough. choice.with_key d parts octet held j all_keys.has.part all_keys.marks all_keys.has.is_part all_keys.has.are all_keys.has.real is (full_begins all_keys.marks front held bits is begun all_keys.full enough)),
+        (λ enough. choice.with_key d parts octet held j all_keys.has.part all_keys.marks all_keys.has.is_part
+            all_keys.has.are all_keys.has.real is
+            (full_begins all_keys.marks front held bits is begun all_keys.full enough)),
         (λ few. without_key j bits count none held is apart told all (full_of_on j bits front held is begun few all_keys)),
       )
 

@@ -20,7 +20,8 @@ use Rattle.csn_certify.specs.Ahead.{TakesComponent}
 -- ---- nothing may stand behind what must be last
 
 module _ (d : DescV) (most : ℕ) (certified : Certified d most) where
-  pub no_bit_follows : {node from octet bit : ℕ} (n : Node) → slice_get d.nodes node ≡ Some n → IsLast n → Reached d node from → InEnds d node from octet → InFollow d node octet (Some bit) → ⊥
+  pub no_bit_follows : {node from octet bit : ℕ} (n : Node) → slice_get d.nodes node ≡ Some n → IsLast n
+      → Reached d node from → InEnds d node from octet → InFollow d node octet (Some bit) → ⊥
   no_bit_follows {node} {from} {octet} n at last reached ends follow = certified (NotLast node octet) (not_last n from at last reached ends follow)
 
   -- where its first components end, a truncation may
@@ -28,7 +29,9 @@ module _ (d : DescV) (most : ℕ) (certified : Certified d most) where
   lead_of before after (parts_end same) = lead_end same
   lead_of (i ∷ before) after (parts_next middle first others) = end.lead_next middle first (lead_of before after others)
 
-  pub components_end : {node from octet bit : ℕ} {parts : List ℕ} (before after : List ℕ) → slice_get d.nodes node ≡ Some (Trunc parts) → parts ≡ before ++ after → Reached d node from → PartsEnd d before from octet → InFollow d node octet (Some bit) → ⊥
+  pub components_end : {node from octet bit : ℕ} {parts : List ℕ} (before after : List ℕ)
+      → slice_get d.nodes node ≡ Some (Trunc parts) → parts ≡ before ++ after → Reached d node from
+      → PartsEnd d before from octet → InFollow d node octet (Some bit) → ⊥
   components_end {from = from} {octet = octet} {parts = parts} before after at is reached ends follow =
       let P : List ℕ → Type 0 = λ l. LeadEnd d l from octet in
       no_bit_follows (Trunc parts) at tt reached (ends_at (Trunc parts) at (ends_trunc (subst P (sym is) (lead_of before after ends)))) follow
@@ -57,7 +60,8 @@ module _ (d : DescV) where
   component_taken (lead_next {t = t} {ts = ts} b1 b2 cut h others) =
       record { first = b1; rest = b2; tree = t; trees = ts; split = cut; are = refl; taken = h; left = means_trunc others }
 
-  component_first : {i o : ℕ} {after : List ℕ} {v : Values} {b : List ℕ} {ts : Trees} → (b ≡ [] → ⊥) → NodeMeans d (Trunc (i ∷ after)) o v b (row ts) → TakesComponent d i after o v b ts
+  component_first : {i o : ℕ} {after : List ℕ} {v : Values} {b : List ℕ} {ts : Trees} → (b ≡ [] → ⊥)
+      → NodeMeans d (Trunc (i ∷ after)) o v b (row ts) → TakesComponent d i after o v b ts
   component_first some (means_cut nothing) = absurd (some nothing)
   component_first some (means_trunc h) = component_taken h
 
@@ -67,7 +71,9 @@ module _ (d : DescV) where
       let Q : Trees → Type 0 = λ l. NodeMeans d n o v c (row l) in
       subst Q (sym equal) (subst P (sym same) h)
 
-  component_again : {i o : ℕ} {after : List ℕ} {v : Values} {b : List ℕ} {t : TreeV} {ts us : Trees} (b1 b2 : List ℕ) → b ≡ b1 ++ b2 → ts ≡ more t us → (b ≡ [] → ⊥) → NMeans d i o v b1 t → NodeMeans d (Trunc after) (o + length b1) (with_value d.nodes i b1 v) b2 (row us) → NodeMeans d (Trunc (i ∷ after)) o v b (row ts)
+  component_again : {i o : ℕ} {after : List ℕ} {v : Values} {b : List ℕ} {t : TreeV} {ts us : Trees} (b1 b2 : List ℕ)
+      → b ≡ b1 ++ b2 → ts ≡ more t us → (b ≡ [] → ⊥) → NMeans d i o v b1 t → NodeMeans d (Trunc after) (o + length b1)
+      (with_value d.nodes i b1 v) b2 (row us) → NodeMeans d (Trunc (i ∷ after)) o v b (row ts)
   component_again {b = b} b1 b2 split are some h (means_cut nothing) =
       let same : b ≡ b1 = split ∙ ap (λ l. b1 ++ l) nothing ∙ append-nil b1 in
       row_along same are (means_trunc (lead_last (some_bit b1 (λ none. some (same ∙ none))) h))
@@ -75,7 +81,10 @@ module _ (d : DescV) where
 
 module _ (d : DescV) (most : ℕ) (certified : Certified d most) where
   -- where bits lie ahead, a truncation takes some
-  takes_some : {node from : ℕ} {parts own : List ℕ} (i o : ℕ) (before after others : List ℕ) → slice_get d.nodes node ≡ Some (Trunc parts) → parts ≡ before ++ i ∷ after → Reached d node from → PartsEnd d before from (o % 8) → MayStandBehind d node ((o + length own) % 8) others → (own ++ others ≡ [] → ⊥) → own ≡ [] → ⊥
+  takes_some : {node from : ℕ} {parts own : List ℕ} (i o : ℕ) (before after others : List ℕ)
+      → slice_get d.nodes node ≡ Some (Trunc parts) → parts ≡ before ++ i ∷ after → Reached d node from
+      → PartsEnd d before from (o % 8) → MayStandBehind d node ((o + length own) % 8) others
+      → (own ++ others ≡ [] → ⊥) → own ≡ [] → ⊥
   takes_some {own = own} i o before after [] at is reached ends behind some nothing = some (append-nil own ∙ nothing)
   takes_some {node} {own = own} i o before after (bit ∷ rest) at is reached ends behind some nothing =
       let size = ap length nothing in
@@ -83,7 +92,11 @@ module _ (d : DescV) (most : ℕ) (certified : Certified d most) where
       let P : ℕ → Type 0 = λ p. InFollow d node (p % 8) (Some bit) in
       components_end d most certified before (i ∷ after) at is reached ends (subst P here (behind bit rest refl))
 
-  pub next_component : {node from i o : ℕ} {parts after : List ℕ} {v : Values} {own : List ℕ} {ts : Trees} (before others : List ℕ) → slice_get d.nodes node ≡ Some (Trunc parts) → parts ≡ before ++ i ∷ after → Reached d node from → PartsEnd d before from (o % 8) → MayStandBehind d node ((o + length own) % 8) others → (own ++ others ≡ [] → ⊥) → NodeMeans d (Trunc (i ∷ after)) o v own (row ts) ↔ TakesComponent d i after o v own ts
+  pub next_component : {node from i o : ℕ} {parts after : List ℕ} {v : Values} {own : List ℕ} {ts : Trees}
+      (before others : List ℕ) → slice_get d.nodes node ≡ Some (Trunc parts)
+      → parts ≡ before ++ i ∷ after → Reached d node from → PartsEnd d before from (o % 8)
+      → MayStandBehind d node ((o + length own) % 8) others → (own ++ others ≡ [] → ⊥)
+      → NodeMeans d (Trunc (i ∷ after)) o v own (row ts) ↔ TakesComponent d i after o v own ts
   next_component {i = i} {o = o} {after = after} {v = v} {own = own} {ts = ts} before others at is reached ends behind some =
       (λ h. component_first d own_some h, λ h. component_again d h.first h.rest h.split h.are own_some h.taken h.left)
     where

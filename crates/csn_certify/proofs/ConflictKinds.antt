@@ -11,7 +11,8 @@ use Rattle.csn_look.specs.Keys.{InKeys, IsNotFirm}
 use Rattle.csn_look.specs.Reached.{Reached}
 use Rattle.csn_certify.specs.declared.conflict.Conflict.{Conflict}
 use Rattle.csn_certify.specs.declared.conflict.Conflict.TheVariants.{TwoEmpty, NotFirm, Overlap, EmptyClash, LoopClash, NotLast}
-use Rattle.csn_certify.specs.Conflicts.{IsBegunBy, IsLast, IsNull, IsConflict, two_empty, choice_not_firm, many_not_firm, times_not_firm, overlap, empty_clash, loop_clash, not_last}
+use Rattle.csn_certify.specs.Conflicts.{IsBegunBy, IsLast, IsNull, IsConflict, two_empty, choice_not_firm}
+use Rattle.csn_certify.specs.Conflicts.{many_not_firm, times_not_firm, overlap, empty_clash, loop_clash, not_last}
 use Rattle.csn_certify.specs.Search.{IsUnder, IsFirstUnder, IsNullAt, IsClashing, MayEndAt, IsFollowed}
 use Rattle.csn_certify.proofs.Searching.{node_of, node_under}
 
@@ -125,9 +126,12 @@ module _ (d : DescV) where
   of_last n is_last is (two_empty {parts = ps} at less at_i at_j null_i null_j) = subst IsLast (one_node d.nodes _ _ n (Choice ps) refl is at) is_last
   of_last n is_last is (choice_not_firm {parts = ps} at at_i real not_firm) = subst IsLast (one_node d.nodes _ _ n (Choice ps) refl is at) is_last
   of_last n is_last is (many_not_firm {p = p} at same not_firm) = absurd (subst IsLast (one_node d.nodes _ _ n (Many p) refl is at) is_last)
-  of_last n is_last is (times_not_firm {p = p} {count = count} at same null) = absurd (subst IsLast (one_node d.nodes _ _ n (Times count p) refl is at) is_last)
-  of_last n is_last is (overlap {parts = ps} mark_i mark_j at reached less at_i at_j real_i real_j key_i key_j begun) = subst IsLast (one_node d.nodes _ _ n (Choice ps) refl is at) is_last
-  of_last n is_last is (empty_clash {parts = ps} at reached at_i null at_j other start follow) = subst IsLast (one_node d.nodes _ _ n (Choice ps) refl is at) is_last
+  of_last n is_last is (times_not_firm {p = p} {count = count} at same null) =
+      absurd (subst IsLast (one_node d.nodes _ _ n (Times count p) refl is at) is_last)
+  of_last n is_last is (overlap {parts = ps} mark_i mark_j at reached less at_i at_j real_i real_j key_i key_j begun)
+      = subst IsLast (one_node d.nodes _ _ n (Choice ps) refl is at) is_last
+  of_last n is_last is (empty_clash {parts = ps} at reached at_i null at_j other start follow) =
+      subst IsLast (one_node d.nodes _ _ n (Choice ps) refl is at) is_last
   of_last n is_last is (loop_clash {p = p} at reached start follow) = subst IsLast (one_node d.nodes _ _ n (Many p) refl is at) is_last
   of_last n is_last is (not_last {bit = bit} m from at last reached ends follow) = ((from, reached, ends), (bit, follow))
 
@@ -137,27 +141,35 @@ module _ (d : DescV) where
   of_plain n plain is (choice_not_firm {parts = ps} at at_i real not_firm) = subst IsPlain (one_node d.nodes _ _ n (Choice ps) refl is at) plain
   of_plain n plain is (many_not_firm {p = p} at same not_firm) = subst IsPlain (one_node d.nodes _ _ n (Many p) refl is at) plain
   of_plain n plain is (times_not_firm {p = p} {count = count} at same null) = subst IsPlain (one_node d.nodes _ _ n (Times count p) refl is at) plain
-  of_plain n plain is (overlap {parts = ps} mark_i mark_j at reached less at_i at_j real_i real_j key_i key_j begun) = subst IsPlain (one_node d.nodes _ _ n (Choice ps) refl is at) plain
-  of_plain n plain is (empty_clash {parts = ps} at reached at_i null at_j other start follow) = subst IsPlain (one_node d.nodes _ _ n (Choice ps) refl is at) plain
+  of_plain n plain is (overlap {parts = ps} mark_i mark_j at reached less at_i at_j real_i real_j key_i key_j begun) =
+      subst IsPlain (one_node d.nodes _ _ n (Choice ps) refl is at) plain
+  of_plain n plain is (empty_clash {parts = ps} at reached at_i null at_j other start follow) =
+      subst IsPlain (one_node d.nodes _ _ n (Choice ps) refl is at) plain
   of_plain n plain is (loop_clash {p = p} at reached start follow) = subst IsPlain (one_node d.nodes _ _ n (Many p) refl is at) plain
   of_plain n plain is (not_last m from at last reached ends follow) =
       plain_not_last n (subst IsLast (one_node d.nodes _ _ m n refl at is) last) plain
 
   -- ---- by the node's number
 
-  at_node : (node : ℕ) (front : List ℕ) (n : Node) (c : Conflict) → slice_get d.nodes node ≡ Some n → IsUnder (node ∷ front) c → slice_get d.nodes (node_of c) ≡ Some n
+  at_node : (node : ℕ) (front : List ℕ) (n : Node) (c : Conflict) → slice_get d.nodes node ≡ Some n
+      → IsUnder (node ∷ front) c → slice_get d.nodes (node_of c) ≡ Some n
   at_node node front n c at under = ap (λ (k : ℕ). slice_get d.nodes k) (node_under node front c under) ∙ at
 
-  pub choice_fits : (node : ℕ) (front parts : List ℕ) (c : Conflict) → slice_get d.nodes node ≡ Some (Choice parts) → IsUnder (node ∷ front) c → IsConflict d 12 c → ChoiceFits parts c
+  pub choice_fits : (node : ℕ) (front parts : List ℕ) (c : Conflict) → slice_get d.nodes node ≡ Some (Choice parts)
+      → IsUnder (node ∷ front) c → IsConflict d 12 c → ChoiceFits parts c
   choice_fits node front parts c at under holds = of_choice parts (at_node node front (Choice parts) c at under) holds
 
-  pub times_fits : (node : ℕ) (front : List ℕ) (count : Count) (part : ℕ) (c : Conflict) → slice_get d.nodes node ≡ Some (Times count part) → IsUnder (node ∷ front) c → IsConflict d 12 c → TimesFits part c
+  pub times_fits : (node : ℕ) (front : List ℕ) (count : Count) (part : ℕ) (c : Conflict)
+      → slice_get d.nodes node ≡ Some (Times count part) → IsUnder (node ∷ front) c → IsConflict d 12 c
+      → TimesFits part c
   times_fits node front count part c at under holds = of_times count part (at_node node front (Times count part) c at under) holds
 
-  pub many_fits : (node : ℕ) (front : List ℕ) (part : ℕ) (c : Conflict) → slice_get d.nodes node ≡ Some (Many part) → IsUnder (node ∷ front) c → IsConflict d 12 c → ManyFits part c
+  pub many_fits : (node : ℕ) (front : List ℕ) (part : ℕ) (c : Conflict) → slice_get d.nodes node ≡ Some (Many part)
+      → IsUnder (node ∷ front) c → IsConflict d 12 c → ManyFits part c
   many_fits node front part c at under holds = of_many part (at_node node front (Many part) c at under) holds
 
-  pub last_fits : (node : ℕ) (front : List ℕ) (n : Node) (c : Conflict) → slice_get d.nodes node ≡ Some n → IsLast n → IsUnder (node ∷ front) c → IsConflict d 12 c → LastFits c
+  pub last_fits : (node : ℕ) (front : List ℕ) (n : Node) (c : Conflict) → slice_get d.nodes node ≡ Some n → IsLast n
+      → IsUnder (node ∷ front) c → IsConflict d 12 c → LastFits c
   last_fits node front n c at last under holds = of_last n last (at_node node front n c at under) holds
 
   pub plain_none : (node : ℕ) (n : Node) → slice_get d.nodes node ≡ Some n → IsPlain n → IsFirstUnder d (node ∷ []) None

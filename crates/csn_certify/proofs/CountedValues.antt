@@ -1,5 +1,7 @@
 -- Fields that counts stand on: they have a width of a few bits, and with the values that are seen each count is a number.
-use Rattle.std.proofs.Common.{◌≡◌, ℕ, zero, suc, ◌+◌, ◌^◌, ◌<◌, ◌≤◌, ◌==◌, ◌||◌, Bool, true, false, if◌then◌else◌, eqb-true, List, [], ◌∷◌, length, refl, ◌∙◌, ap, subst, arith, Option, Some, None, slice_get, Contains, ◌⊎◌, inl, inr}
+use Rattle.std.proofs.Common.{◌≡◌, ℕ, zero, suc, ◌+◌, ◌^◌, ◌<◌, ◌≤◌, ◌==◌, ◌||◌, Bool, true, false, if◌then◌else◌}
+use Rattle.std.proofs.Common.{eqb-true, List, [], ◌∷◌, length, refl, ◌∙◌, ap, subst, arith, Option, Some, None}
+use Rattle.std.proofs.Common.{slice_get, Contains, ◌⊎◌, inl, inr}
 use Rattle.std.specs.Prelude.{IsSome, IsSomeAnd, count_by, cond}
 use Rattle.std.specs.List.{list_any, slice_index_or}
 use Rattle.std.proofs.lemmas.List.Sums.{sum_by-cons}
@@ -12,7 +14,8 @@ use Rattle.csn_desc.specs.declared.node.Node.{Node}
 use Rattle.csn_desc.specs.declared.node.Node.TheVariants.{Lits, Spare, Pad, Null, Field, Rest, Seq, Choice, Times, Many, Trunc, Window, Named}
 use Rattle.csn_desc.specs.Nodes.{DescV, head_of}
 use Rattle.csn_desc.specs.Values.{Values, value_of, is_named, with_value}
-use Rattle.csn_desc.specs.Formed.{counts_on, node_counts_on, is_counted, value_width, with_seen, IsCount, IsHead, Formed, formed, FitWidths, HaveValues, IsDescription}
+use Rattle.csn_desc.specs.Formed.{counts_on, node_counts_on, is_counted, value_width, with_seen, IsCount, IsHead}
+use Rattle.csn_desc.specs.Formed.{Formed, formed, FitWidths, HaveValues, IsDescription}
 use Rattle.csn_desc.proofs.Placed.{node_placed}
 use Rattle.csn_certify.specs.CountedValues.{fields_of, HasNumber}
 
@@ -29,7 +32,9 @@ pub fields_have_values : (v : Values) → HaveValues v (fields_of v)
 fields_have_values [] field h = absurd (omega (arith, h.1))
 fields_have_values (last ∷ v) field h = found (λ seen. fields_have_values v field seen) (last.0 == field) refl (contains_cases last.0 (fields_of v) field h)
   where
-    found : (Contains (fields_of v) field → IsSome (value_of v field)) → (same : Bool) → (last.0 == field) ≡ same → (last.0 ≡ field) ⊎ Contains (fields_of v) field → IsSome (if same then Some (number_of last.1) else value_of v field)
+    found : (Contains (fields_of v) field → IsSome (value_of v field)) → (same : Bool)
+        → (last.0 == field) ≡ same → (last.0 ≡ field) ⊎ Contains (fields_of v) field
+        → IsSome (if same then Some (number_of last.1) else value_of v field)
     found earlier true e h = refl
     found earlier false e (inl same) = absurd (grind (arith, e, same))
     found earlier false e (inr h) = earlier h

@@ -1,6 +1,7 @@
 -- Filling the entries of all words that go on from a word: for each number of bits these stand at places one after
 -- another.
-use Rattle.std.proofs.Common.{◌≡◌, ◌≢◌, ℕ, suc, ◌+◌, ◌-◌, ◌*◌, ◌/◌, ◌%◌, ◌^◌, ◌<◌, ◌≤◌, ◌⊎◌, inl, inr, List, ◌++◌, length, take, drop, refl, sym, ◌∙◌, ap, subst, arith, take-append-drop}
+use Rattle.std.proofs.Common.{◌≡◌, ◌≢◌, ℕ, suc, ◌+◌, ◌-◌, ◌*◌, ◌/◌, ◌%◌, ◌^◌, ◌<◌, ◌≤◌, ◌⊎◌, inl, inr, List, ◌++◌}
+use Rattle.std.proofs.Common.{length, take, drop, refl, sym, ◌∙◌, ap, subst, arith, take-append-drop}
 use Rattle.std.specs.Prelude.{slice_index_or}
 use Rattle.std.proofs.lemmas.Bool.{cases_lt}
 use Rattle.std.proofs.lemmas.Nat.{pow-add}
@@ -67,7 +68,9 @@ pub record LevelIs (width place first end more : ℕ) : Type 0 where
   pub end_is : end ≡ place * 2 ^ more + 2 ^ more
   pub within : end ≤ 2 ^ (width + 1)
 
-pub level_is : (width more place : ℕ) (word : List ℕ) → IsWord word → width ≤ 12 → length word + more ≤ width → place ≡ place_of word → LevelIs width (place_of word) (place * 2 ^ more % 2 ^ 64) (place * 2 ^ more % 2 ^ 64 + 1 * 2 ^ more % 2 ^ 64) more
+pub level_is : (width more place : ℕ) (word : List ℕ) → IsWord word → width ≤ 12 → length word + more ≤ width
+    → place ≡ place_of word → LevelIs width (place_of word) (place * 2 ^ more % 2 ^ 64)
+    (place * 2 ^ more % 2 ^ 64 + 1 * 2 ^ more % 2 ^ 64) more
 level_is width more place word is narrow short same =
     let inside = level_within width more word is short in
     let few : width + 1 ≤ 13 = omega (arith, narrow) in
@@ -88,7 +91,8 @@ pub record Covered (place many : ℕ) (entry : Entry) (old new : List Entry) : T
 pub cover_none : (place : ℕ) (entry : Entry) (old : List Entry) → Covered place 0 entry old old
 cover_none place entry old = record { covered = λ at over less. absurd (omega arith); others = λ at never. refl }
 
-pub cover_more : (place many first end : ℕ) (entry : Entry) (old a new : List Entry) → first ≡ place * 2 ^ many → end ≡ place * 2 ^ many + 2 ^ many → Covered place many entry old a
+pub cover_more : (place many first end : ℕ) (entry : Entry) (old a new : List Entry)
+    → first ≡ place * 2 ^ many → end ≡ place * 2 ^ many + 2 ^ many → Covered place many entry old a
     → ((at : ℕ) → first ≤ at → at < end → slice_index_or new at Refuse ≡ entry)
     → ((at : ℕ) → at < first → slice_index_or new at Refuse ≡ slice_index_or a at Refuse)
     → ((at : ℕ) → end ≤ at → slice_index_or new at Refuse ≡ slice_index_or a at Refuse)
@@ -115,7 +119,8 @@ cover_more place many first end entry old a new is_first is_end all put before_i
     its at over (before less never) (inr last) same = absurd (never (subst (λ (n : ℕ). at / 2 ^ n ≡ place) last same))
     its at over (behind more never) (inr last) same = absurd (never (subst (λ (n : ℕ). at / 2 ^ n ≡ place) last same))
 
-    rest : (at : ℕ) → ((over : ℕ) → over < many + 1 → at / 2 ^ over ≢ place) → Stands place many at → slice_index_or new at Refuse ≡ slice_index_or old at Refuse
+    rest : (at : ℕ) → ((over : ℕ) → over < many + 1 → at / 2 ^ over ≢ place)
+        → Stands place many at → slice_index_or new at Refuse ≡ slice_index_or old at Refuse
     rest at never how = apart at (never many (omega arith)) how ∙ all.others at (λ over less. never over (omega (arith, less)))
 
 -- ---- and so of words
@@ -146,7 +151,9 @@ place_of_begun : (word held : List ℕ) → IsWord held → IsBegunBy held word 
 place_of_begun word held is begun =
     place_cut (length word) held is ∙ ap (λ l. place_of (take (length word) l)) begun.1 ∙ ap place_of (take-append_seam word begun.0)
 
-pub cover_all : (word : List ℕ) (width many j bits : ℕ) (old new : List Entry) → IsWord word → length word ≤ width → many ≡ width - length word + 1 → Covered (place_of word) many (Take bits j) old new → FillsUnder word width (IsTaken j bits) old new
+pub cover_all : (word : List ℕ) (width many j bits : ℕ) (old new : List Entry) → IsWord word → length word ≤ width
+    → many ≡ width - length word + 1 → Covered (place_of word) many (Take bits j) old new
+    → FillsUnder word width (IsTaken j bits) old new
 cover_all word width many j bits old new is within_it size all held is_held short = (
   (λ begun. all.covered (place_of held) (length held - length word) (omega (arith, short, within_it, size)) (place_of_begun word held is_held begun)),
   (λ never. all.others (place_of held) (λ over less same. never (begun_by_place word held over is is_held same))),

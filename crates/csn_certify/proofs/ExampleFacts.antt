@@ -1,5 +1,6 @@
 -- That the worked examples hold.
-use Rattle.std.proofs.Common.{◌≡◌, ℕ, zero, suc, ◌<◌, ◌⊎◌, inl, inr, Bool, true, false, List, [], ◌∷◌, refl, sym, ◌∙◌, ap, subst, arith, Some, slice_get, lit<, lit≤}
+use Rattle.std.proofs.Common.{◌≡◌, ℕ, zero, suc, ◌<◌, ◌⊎◌, inl, inr, Bool, true, false, List, [], ◌∷◌, refl, sym, ◌∙◌}
+use Rattle.std.proofs.Common.{ap, subst, arith, Some, slice_get, lit<, lit≤}
 use Rattle.csn_desc.specs.declared.symbol.Symbol.{Symbol}
 use Rattle.csn_desc.specs.declared.symbol.Symbol.TheVariants.{Zero, One}
 use Rattle.csn_desc.specs.declared.node.Count.{Count}
@@ -8,7 +9,8 @@ use Rattle.csn_desc.specs.declared.node.Node.TheVariants.{Null, Lits, Choice, Ti
 use Rattle.csn_look.specs.Nullable.{Nullable, NodeNullable, nullable_at}
 use Rattle.csn_look.specs.Keys.{Cut, kept, cut, InKeys, NodeKeys, keys_at, keys_lits, IsNotFirm}
 use Rattle.csn_certify.specs.declared.pick.Pick.TheVariants.{Take, Wait}
-use Rattle.csn_certify.specs.Conflicts.{IsNull, IsBegunBy, IsLast, two_empty, choice_not_firm, many_not_firm, times_not_firm, overlap, empty_clash, loop_clash, not_last, Certified}
+use Rattle.csn_certify.specs.Conflicts.{IsNull, IsBegunBy, IsLast, two_empty, choice_not_firm, many_not_firm}
+use Rattle.csn_certify.specs.Conflicts.{times_not_firm, overlap, empty_clash, loop_clash, not_last, Certified}
 use Rattle.csn_certify.specs.Picks.{BeginsWithKey, Picks, pick_key, pick_wait}
 use Rattle.csn_certify.specs.Examples.{zero_or_one}
 
@@ -137,7 +139,19 @@ certified c (not_last {node = node} n from at last reached ends follow) = no_las
 pub second : Picks zero_or_one 12 0 0 (1 ∷ []) false (Take 1)
 second =
     pick_key (1 ∷ 2 ∷ []) refl
-    (record { own = record { part = 2; word = 1 ∷ []; mark = true; is_part = refl; key = keys_at _ refl (keys_lits (kept (lit≤ tt) refl refl)) }; takes_bits = λ null. no_null 2 null; begins = ([], refl) })
+    (record {
+      own = record {
+        part = 2;
+        word = 1 ∷ [];
+        mark = true;
+        is_part = refl;
+        key =
+            keys_at _ refl (keys_lits (kept (lit≤ tt) refl refl));
+      };
+      takes_bits = λ null. no_null 2 null;
+      begins =
+          ([], refl);
+    })
 
 no_key : (j : ℕ) → BeginsWithKey zero_or_one 12 (1 ∷ 2 ∷ []) 0 [] j → ⊥
 no_key j h =
@@ -148,4 +162,16 @@ no_key j h =
 pub bit_needed : Picks zero_or_one 12 0 0 [] false Wait
 bit_needed =
     pick_wait (1 ∷ 2 ∷ []) refl no_key (λ i t. no_null t.part t.is_null) refl
-    (record { j = 0; own = record { part = 1; word = 0 ∷ []; mark = true; is_part = refl; key = keys_at _ refl (keys_lits (kept (lit≤ tt) refl refl)) }; begins = (0 ∷ [], refl); not_all = lit< tt })
+    (record {
+      j = 0;
+      own = record {
+        part = 1;
+        word = 0 ∷ [];
+        mark = true;
+        is_part = refl;
+        key =
+            keys_at _ refl (keys_lits (kept (lit≤ tt) refl refl));
+      };
+      begins = (0 ∷ [], refl);
+      not_all = lit< tt;
+    })

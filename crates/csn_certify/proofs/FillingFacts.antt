@@ -1,5 +1,7 @@
 -- How the entries of a choice are filled word by word.
-use Rattle.std.proofs.Common.{◌≡◌, ℕ, zero, suc, ◌+◌, ◌-◌, ◌<◌, ◌≤◌, ◌⊎◌, inl, inr, List, [], ◌∷◌, ◌++◌, length, take, drop, take-append-drop, refl, sym, ◌∙◌, ap, subst, arith, append_assoc, append-nil, length-append}
+use Rattle.std.proofs.Common.{◌≡◌, ℕ, zero, suc, ◌+◌, ◌-◌, ◌<◌, ◌≤◌, ◌⊎◌, inl, inr, List, [], ◌∷◌, ◌++◌, length, take}
+use Rattle.std.proofs.Common.{drop, take-append-drop, refl, sym, ◌∙◌, ap, subst, arith, append_assoc, append-nil}
+use Rattle.std.proofs.Common.{length-append}
 use Rattle.std.specs.Prelude.{IsTrue}
 use Rattle.std.proofs.lemmas.Bool.{cases_lt}
 use Rattle.std.proofs.lemmas.List.{append_cancel_left, length-take-le}
@@ -82,7 +84,8 @@ module _ (marks word held : List ℕ) (begun : IsBegunBy held word) where
           let same : held ≡ word = e ∙ append-nil word in
           subst (λ (l : List ℕ). StartsKey marks l) same h
       by_rest (x ∷ rest) e =
-          let long : held ++ h.next ∷ h.back ≡ word ++ x ∷ (rest ++ h.next ∷ h.back) = ap (λ l. l ++ h.next ∷ h.back) e ∙ append_assoc word (x ∷ rest) (h.next ∷ h.back) in
+          let long : held ++ h.next ∷ h.back ≡ word ++ x ∷ (rest ++ h.next ∷ h.back) = ap (λ l. l ++ h.next ∷ h.back)
+          e ∙ append_assoc word (x ∷ rest) (h.next ∷ h.back) in
           record {
             next = x;
             back = rest ++ h.next ∷ h.back;
@@ -169,8 +172,12 @@ module _ (marks word held : List ℕ) (bits : ℕ) (is_word : IsWord held) (begu
   full_on few = record {
     more = few;
     short = full.short;
-    full = λ back is size. subst (λ (l : List ℕ). IsKeyOf marks l) (sym (on back)) (full.full (begun.0 ++ back) (IsBits-append begun.0 back rest_bits is) (omega (arith, size, size_of, length-append begun.0 back)));
-    none = λ back is size key. full.none (begun.0 ++ back) (IsBits-append begun.0 back rest_bits is) (omega (arith, size, size_of, length-append begun.0 back)) (subst (λ (l : List ℕ). IsKeyOf marks l) (on back) key);
+    full = λ back is size. subst (λ (l : List ℕ). IsKeyOf marks l) (sym (on back))
+        (full.full (begun.0 ++ back) (IsBits-append begun.0 back rest_bits is)
+        (omega (arith, size, size_of, length-append begun.0 back)));
+    none = λ back is size key. full.none (begun.0 ++ back) (IsBits-append begun.0 back rest_bits is)
+        (omega (arith, size, size_of, length-append begun.0 back)) (subst (λ (l : List ℕ). IsKeyOf marks l) (on back)
+        key);
   }
 
   -- what goes on from them and is no shorter begins with a key
@@ -198,7 +205,8 @@ module _ (marks word held : List ℕ) (bits : ℕ) (is_word : IsWord held) (begu
           let front : IsWord h.front = word_front h.front h.back (subst (λ (l : List ℕ). IsWord l) h.parts is_word) in
           let size = ap length h.parts in
           let own = ap length e in
-          full.none rest (bits_back word rest (IsBits-along (sym e) front.bits)) (omega (arith, size, own, few, length-append h.front h.back, length-append word rest))
+          full.none rest (bits_back word rest (IsBits-along (sym e) front.bits))
+          (omega (arith, size, own, few, length-append h.front h.back, length-append word rest))
           (subst (λ (l : List ℕ). IsKeyOf marks l) e (h.whole, h.key))
       by_order (inr (rest, e)) = none (record { front = h.front; back = rest; parts = e; whole = h.whole; key = h.key })
 
@@ -225,7 +233,8 @@ module _ (marks word : List ℕ) where
   deep_behind bit n more same deep held is begun =
       deep held is (begun_before word held bit (subst (λ (l : List ℕ). IsBegunBy held l) same begun))
 
-  pub deep_both : (a b n : ℕ) (low high : List ℕ) → low ≡ word ++ 0 ∷ [] → high ≡ word ++ 1 ∷ [] → IsDeep marks low a → IsDeep marks high b → length low ≤ a → a ≤ n → b ≤ n → IsDeep marks word n
+  pub deep_both : (a b n : ℕ) (low high : List ℕ) → low ≡ word ++ 0 ∷ [] → high ≡ word ++ 1 ∷ [] → IsDeep marks low a
+      → IsDeep marks high b → length low ≤ a → a ≤ n → b ≤ n → IsDeep marks word n
   deep_both a b n low high is_low is_high deep_low deep_high more a_most b_most held is begun long none =
       elim (goes_on word held is begun) [
         | no_more same ↦
@@ -237,7 +246,8 @@ module _ (marks word : List ℕ) where
       ]
 
   -- where the word only begins a key, and not all words of one size behind it are keys, more bits are looked at
-  pub deep_room : (n : ℕ) → IsWord word → IsDeep marks word n → ¬ BeginsWithKey marks word → StartsKey marks word → ((bits : ℕ) → ¬ IsFull marks word bits) → length word < n
+  pub deep_room : (n : ℕ) → IsWord word → IsDeep marks word n → ¬ BeginsWithKey marks word → StartsKey marks word
+      → ((bits : ℕ) → ¬ IsFull marks word bits) → length word < n
   deep_room n is deep none start part = by_order (cases_lt (length word) n)
     where
       by_order : (length word < n) ⊎ (n ≤ length word) → length word < n
@@ -248,10 +258,12 @@ module _ (marks word : List ℕ) where
 
 module _ (word : List ℕ) (width : ℕ) (R : List ℕ → Entry → Entry → Type 0) (is_word : IsWord word) (within : length word ≤ width) where
   -- the word alone, where no longer one has an entry
-  pub fills_last : (entry : Entry) (old new : List Entry) → width ≤ length word → R word (entry_of old word) entry → FillsAt word width entry old new → FillsUnder word width R old new
+  pub fills_last : (entry : Entry) (old new : List Entry) → width ≤ length word → R word (entry_of old word) entry
+      → FillsAt word width entry old new → FillsUnder word width R old new
   fills_last entry old new full here put held is short = (
     (λ begun. elim (goes_on word held is begun) [
-      | no_more same ↦ subst (λ (l : List ℕ). R l (entry_of old l) (entry_of new l)) (sym same) (subst (λ (e : Entry). R word (entry_of old word) e) (sym put.here) here)
+      | no_more same ↦ subst (λ (l : List ℕ). R l (entry_of old l) (entry_of new l)) (sym same)
+          (subst (λ (e : Entry). R word (entry_of old word) e) (sym put.here) here)
       | by_zero further ↦ let more = begun_more word held 0 further in absurd (omega arith)
       | by_one further ↦ let more = begun_more word held 1 further in absurd (omega arith)
     ]),
@@ -259,25 +271,41 @@ module _ (word : List ℕ) (width : ℕ) (R : List ℕ → Entry → Entry → T
   )
 
   -- the word, and then what goes on by a 0, and by a 1
-  pub fills_both : (entry : Entry) (low high : List ℕ) (old a b new : List Entry) → low ≡ word ++ 0 ∷ [] → high ≡ word ++ 1 ∷ [] → R word (entry_of old word) entry → FillsAt word width entry old a → FillsUnder low width R a b → FillsUnder high width R b new → FillsUnder word width R old new
+  pub fills_both : (entry : Entry) (low high : List ℕ) (old a b new : List Entry)
+      → low ≡ word ++ 0 ∷ [] → high ≡ word ++ 1 ∷ [] → R word (entry_of old word) entry
+      → FillsAt word width entry old a → FillsUnder low width R a b → FillsUnder high width R b new
+      → FillsUnder word width R old new
   fills_both entry low high old a b new is_low is_high here put zeros ones held is short = (
     (λ begun. elim (goes_on word held is begun) [
-      | no_more same ↦ subst (λ (l : List ℕ). R l (entry_of old l) (entry_of new l)) (sym same) (subst (λ (e : Entry). R word (entry_of old word) e) (sym kept_here) here)
+      | no_more same ↦ subst (λ (l : List ℕ). R l (entry_of old l) (entry_of new l)) (sym same)
+          (subst (λ (e : Entry). R word (entry_of old word) e) (sym kept_here) here)
       | by_zero further ↦
-          let first : entry_of a held ≡ entry_of old held = put.others held is short (λ same. let more = begun_more word held 0 further in let size = ap length same in absurd (omega arith)) in
-          let last : entry_of new held ≡ entry_of b held = (ones held is short).1 (λ other. apart word held further (subst (λ (l : List ℕ). IsBegunBy held l) is_high other)) in
+          let first : entry_of a held ≡ entry_of old held = put.others held is short (λ same. let more =
+          begun_more word held 0 further in let size = ap length same in absurd (omega arith)) in
+          let last : entry_of new held ≡ entry_of b held =
+          (ones held is short).1
+          (λ other. apart word held further (subst (λ (l : List ℕ). IsBegunBy held l) is_high other)) in
           let made = (zeros held is short).0 (subst (λ (l : List ℕ). IsBegunBy held l) (sym is_low) further) in
           subst (λ (e : Entry). R held e (entry_of new held)) first (subst (λ (e : Entry). R held (entry_of a held) e) (sym last) made)
       | by_one further ↦
-          let first : entry_of a held ≡ entry_of old held = put.others held is short (λ same. let more = begun_more word held 1 further in let size = ap length same in absurd (omega arith)) in
-          let mid : entry_of b held ≡ entry_of a held = (zeros held is short).1 (λ other. apart word held (subst (λ (l : List ℕ). IsBegunBy held l) is_low other) further) in
+          let first : entry_of a held ≡ entry_of old held = put.others held is short (λ same. let more =
+          begun_more word held 1 further in let size = ap length same in absurd (omega arith)) in
+          let mid : entry_of b held ≡ entry_of a held =
+          (zeros held is short).1
+          (λ other. apart word held (subst (λ (l : List ℕ). IsBegunBy held l) is_low other) further) in
           let made = (ones held is short).0 (subst (λ (l : List ℕ). IsBegunBy held l) (sym is_high) further) in
           subst (λ (e : Entry). R held e (entry_of new held)) (mid ∙ first) made
     ]),
     (λ never.
-        let first : entry_of a held ≡ entry_of old held = put.others held is short (λ same. never (subst (λ (l : List ℕ). IsBegunBy held l) same (begun_itself held))) in
-        let mid : entry_of b held ≡ entry_of a held = (zeros held is short).1 (λ other. never (begun_before word held 0 (subst (λ (l : List ℕ). IsBegunBy held l) is_low other))) in
-        let last : entry_of new held ≡ entry_of b held = (ones held is short).1 (λ other. never (begun_before word held 1 (subst (λ (l : List ℕ). IsBegunBy held l) is_high other))) in
+        let first : entry_of a held ≡ entry_of old held =
+        put.others held is short
+        (λ same. never (subst (λ (l : List ℕ). IsBegunBy held l) same (begun_itself held))) in
+        let mid : entry_of b held ≡ entry_of a held =
+        (zeros held is short).1
+        (λ other. never (begun_before word held 0 (subst (λ (l : List ℕ). IsBegunBy held l) is_low other))) in
+        let last : entry_of new held ≡ entry_of b held =
+        (ones held is short).1
+        (λ other. never (begun_before word held 1 (subst (λ (l : List ℕ). IsBegunBy held l) is_high other))) in
         last ∙ mid ∙ first),
   )
     where
@@ -299,7 +327,8 @@ module _ (marks : List ℕ) (j : ℕ) (word : List ℕ) (width : ℕ) where
     (λ never. refl),
   )
 
-  pub filled_key : (bits : ℕ) (old new : List Entry) → bits ≡ length word → BeginsWithKey marks word → FillsUnder word width (IsTaken j bits) old new → FillsUnder word width (IsFilled marks j) old new
+  pub filled_key : (bits : ℕ) (old new : List Entry) → bits ≡ length word → BeginsWithKey marks word
+      → FillsUnder word width (IsTaken j bits) old new → FillsUnder word width (IsFilled marks j) old new
   filled_key bits old new size key taken held is short = (
     (λ begun.
         let longer = begun_longer word held begun in
@@ -307,7 +336,8 @@ module _ (marks : List ℕ) (j : ℕ) (word : List ℕ) (width : ℕ) where
     (taken held is short).1,
   )
 
-  pub filled_full : (bits : ℕ) (old new : List Entry) → ¬ BeginsWithKey marks word → IsFull marks word bits → FillsUnder word width (IsTaken j bits) old new → FillsUnder word width (IsFilled marks j) old new
+  pub filled_full : (bits : ℕ) (old new : List Entry) → ¬ BeginsWithKey marks word → IsFull marks word bits
+      → FillsUnder word width (IsTaken j bits) old new → FillsUnder word width (IsFilled marks j) old new
   filled_full bits old new none full taken held is short = (
     (λ begun. by (either bits (length held)) begun),
     (taken held is short).1,
@@ -318,4 +348,5 @@ module _ (marks : List ℕ) (j : ℕ) (word : List ℕ) (width : ℕ) where
 
       by : (bits ≤ length held) ⊎ (length held < bits) → IsBegunBy held word → IsFilled marks j held (entry_of old held) (entry_of new held)
       by (inl many) begun = with_key bits (full_begins marks word held bits is begun full many) many ((taken held is short).0 begun)
-      by (inr few) begun = with_full bits (full_fresh marks word held bits is begun full none few) (full_on marks word held bits is begun full (omega (arith, few))) ((taken held is short).0 begun)
+      by (inr few) begun = with_full bits (full_fresh marks word held bits is begun full none few)
+          (full_on marks word held bits is begun full (omega (arith, few))) ((taken held is short).0 begun)

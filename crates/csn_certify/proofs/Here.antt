@@ -62,7 +62,8 @@ module _ (d : DescV) (here : Here d) where
   pub ends : {i o : ℕ} {v : Values} {b : List ℕ} {t : TreeV} → FitWidths d v → NMeans d i o v b t → InEnds d i (o % 8) ((o + length b) % 8)
   ends {i} {o} {v} {b} {t} widths h = here.known.ends d i o v b t here.is widths h
 
-  pub parts_ends : {parts : List ℕ} {o : ℕ} {v : Values} {b : List ℕ} {ts : Trees} → FitWidths d v → PartsMean d parts o v b ts → PartsEnd d parts (o % 8) ((o + length b) % 8)
+  pub parts_ends : {parts : List ℕ} {o : ℕ} {v : Values} {b : List ℕ} {ts : Trees}
+      → FitWidths d v → PartsMean d parts o v b ts → PartsEnd d parts (o % 8) ((o + length b) % 8)
   parts_ends {o = o} {b = b} widths (mean.parts_end nothing) = let size = ap length nothing in parts_end (omega arith)
   parts_ends {parts = i ∷ parts} {o = o} {b = b} widths (mean.parts_next b1 b2 cut h others) =
       let size = ap length cut in
@@ -78,10 +79,13 @@ module _ (d : DescV) (here : Here d) where
   follows {i} {o} {v} a r is widths h =
       let P : List ℕ → Type 0 = λ l. NFollow d i o v l in here.known.follows d i o a v r here.is widths (subst P is h)
 
-  pub many_start : {i o : ℕ} {v : Values} {b : List ℕ} {ts : Trees} (k a : ℕ) (r : List ℕ) → slice_get d.nodes k ≡ Some (Many i) → b ≡ a ∷ r → FitWidths d v → ManyMean d i o v b ts → InStart d i (o % 8) a
+  pub many_start : {i o : ℕ} {v : Values} {b : List ℕ} {ts : Trees} (k a : ℕ) (r : List ℕ)
+      → slice_get d.nodes k ≡ Some (Many i) → b ≡ a ∷ r → FitWidths d v → ManyMean d i o v b ts
+      → InStart d i (o % 8) a
   many_start {i = i} k a r at is widths h = many_starts d at (starts a r is widths (means_at (Many i) at (means_many h)))
 
-  pub many_follow_start : {i o : ℕ} {v : Values} {b : List ℕ} (k a : ℕ) (r : List ℕ) → slice_get d.nodes k ≡ Some (Many i) → b ≡ a ∷ r → FitWidths d v → ManyFollow d i o v b → InStart d i (o % 8) a
+  pub many_follow_start : {i o : ℕ} {v : Values} {b : List ℕ} (k a : ℕ) (r : List ℕ)
+      → slice_get d.nodes k ≡ Some (Many i) → b ≡ a ∷ r → FitWidths d v → ManyFollow d i o v b → InStart d i (o % 8) a
   many_follow_start {i = i} k a r at is widths h = many_starts d at (follows a r is widths (follows_at (Many i) at (follows_many h)))
 
   -- ---- keys
@@ -96,42 +100,56 @@ module _ (d : DescV) (here : Here d) where
   has_key most {i = i} o (formed n at few head have room held) =
       let key = here.known.some_key d most i o n here.is at in record { word = key.0; mark = key.1; key = key.2 }
 
-  pub key_start : (most : ℕ) {i : ℕ} {word : List ℕ} {mark : Bool} (o a : ℕ) (r : List ℕ) → word ≡ a ∷ r → InKeys d most i (o % 8) word mark → InStart d i (o % 8) a
+  pub key_start : (most : ℕ) {i : ℕ} {word : List ℕ} {mark : Bool} (o a : ℕ) (r : List ℕ)
+      → word ≡ a ∷ r → InKeys d most i (o % 8) word mark → InStart d i (o % 8) a
   key_start most {i} {mark = mark} o a r is h =
       let P : List ℕ → Type 0 = λ l. InKeys d most i (o % 8) l mark in
       here.known.key_start d most i o a r mark here.is (subst P is h)
 
   -- ---- what stands behind a part: bits of the later ones, or such that these follow
 
-  pub choice_reached : {k i o : ℕ} {parts : List ℕ} (j : ℕ) → slice_get d.nodes k ≡ Some (Choice parts) → slice_get parts j ≡ Some i → Reached d k o → Reached d i o
+  pub choice_reached : {k i o : ℕ} {parts : List ℕ} (j : ℕ) → slice_get d.nodes k ≡ Some (Choice parts)
+      → slice_get parts j ≡ Some i → Reached d k o → Reached d i o
   choice_reached {k} {i} {o} {parts} j at at_j reached = here.known.choice_reached d k j i o parts at at_j reached
 
-  pub choice_stands : {k i o : ℕ} {parts b x : List ℕ} (j : ℕ) → slice_get d.nodes k ≡ Some (Choice parts) → slice_get parts j ≡ Some i → Stands d k o b x → Stands d i o b x
+  pub choice_stands : {k i o : ℕ} {parts b x : List ℕ} (j : ℕ) → slice_get d.nodes k ≡ Some (Choice parts)
+      → slice_get parts j ≡ Some i → Stands d k o b x → Stands d i o b x
   choice_stands {k} {i} {o} {parts} {b} {x} j at at_j s = record { behind = here.known.choice d k j i ((o + length b) % 8) parts x at at_j s.behind }
 
   pub named_stands : {k i o : ℕ} {label b x : List ℕ} → slice_get d.nodes k ≡ Some (Named label i) → Stands d k o b x → Stands d i o b x
   named_stands {k} {i} {o} {label} {b} {x} at s = record { behind = here.known.label d k i ((o + length b) % 8) label x at s.behind }
 
-  pub seq_stands : {k i o : ℕ} {v : Values} {parts after b2 x : List ℕ} {ts : Trees} (before b1 : List ℕ) → slice_get d.nodes k ≡ Some (Seq parts) → parts ≡ before ++ i ∷ after → FitWidths d v → PartsMean d after (o + length b1) v b2 ts → Stands d k (o + length b1) b2 x → Stands d i o b1 (b2 ++ x)
+  pub seq_stands : {k i o : ℕ} {v : Values} {parts after b2 x : List ℕ} {ts : Trees} (before b1 : List ℕ)
+      → slice_get d.nodes k ≡ Some (Seq parts) → parts ≡ before ++ i ∷ after → FitWidths d v
+      → PartsMean d after (o + length b1) v b2 ts → Stands d k (o + length b1) b2 x → Stands d i o b1 (b2 ++ x)
   seq_stands {k} {i} {o} {v} {parts} {after} {b2} {x} {ts} before b1 at is widths h s =
       record { behind = here.known.sequence d k i (o + length b1) parts before after v b2 x ts here.is at is widths h s.behind }
 
-  pub times_stands : {k i n o : ℕ} {count : Count} {v : Values} {b2 x : List ℕ} {ts : Trees} (b1 : List ℕ) → slice_get d.nodes k ≡ Some (Times count i) → FitWidths d v → TimesMean d n i (o + length b1) v b2 ts → Stands d k (o + length b1) b2 x → Stands d i o b1 (b2 ++ x)
+  pub times_stands : {k i n o : ℕ} {count : Count} {v : Values} {b2 x : List ℕ} {ts : Trees} (b1 : List ℕ)
+      → slice_get d.nodes k ≡ Some (Times count i) → FitWidths d v → TimesMean d n i (o + length b1) v b2 ts
+      → Stands d k (o + length b1) b2 x → Stands d i o b1 (b2 ++ x)
   times_stands {k} {i} {n} {o} {count} {v} {b2} {x} {ts} b1 at widths h s =
       record { behind = here.known.times d k i (o + length b1) n count v b2 x ts here.is at widths h s.behind }
 
-  pub many_stands : {k i o : ℕ} {v : Values} {b2 x : List ℕ} {ts : Trees} (b1 : List ℕ) → slice_get d.nodes k ≡ Some (Many i) → FitWidths d v → ManyMean d i (o + length b1) v b2 ts → Stands d k (o + length b1) b2 x → Stands d i o b1 (b2 ++ x)
+  pub many_stands : {k i o : ℕ} {v : Values} {b2 x : List ℕ} {ts : Trees} (b1 : List ℕ)
+      → slice_get d.nodes k ≡ Some (Many i) → FitWidths d v → ManyMean d i (o + length b1) v b2 ts
+      → Stands d k (o + length b1) b2 x → Stands d i o b1 (b2 ++ x)
   many_stands {k} {i} {o} {v} {b2} {x} {ts} b1 at widths h s =
       record { behind = here.known.many d k i (o + length b1) v b2 x ts here.is at widths h s.behind }
 
-  pub seq_stands_followed : {i o : ℕ} {v : Values} {parts after b2 : List ℕ} (k : ℕ) (before b1 : List ℕ) → slice_get d.nodes k ≡ Some (Seq parts) → parts ≡ before ++ i ∷ after → FitWidths d v → PartsFollow d after (o + length b1) v b2 → Stands d i o b1 b2
+  pub seq_stands_followed : {i o : ℕ} {v : Values} {parts after b2 : List ℕ} (k : ℕ) (before b1 : List ℕ)
+      → slice_get d.nodes k ≡ Some (Seq parts) → parts ≡ before ++ i ∷ after → FitWidths d v
+      → PartsFollow d after (o + length b1) v b2 → Stands d i o b1 b2
   seq_stands_followed {i} {o} {v} {parts} {after} {b2} k before b1 at is widths h =
       record { behind = here.known.sequence_followed d k i (o + length b1) parts before after v b2 here.is at is widths h }
 
-  pub times_stands_followed : {i n o : ℕ} {count : Count} {v : Values} {b2 : List ℕ} (k : ℕ) (b1 : List ℕ) → slice_get d.nodes k ≡ Some (Times count i) → FitWidths d v → TimesFollow d n i (o + length b1) v b2 → Stands d i o b1 b2
+  pub times_stands_followed : {i n o : ℕ} {count : Count} {v : Values} {b2 : List ℕ} (k : ℕ) (b1 : List ℕ)
+      → slice_get d.nodes k ≡ Some (Times count i) → FitWidths d v → TimesFollow d n i (o + length b1) v b2
+      → Stands d i o b1 b2
   times_stands_followed {i} {n} {o} {count} {v} {b2} k b1 at widths h =
       record { behind = here.known.times_followed d k i (o + length b1) n count v b2 here.is at widths h }
 
-  pub many_stands_followed : {i o : ℕ} {v : Values} {b2 : List ℕ} (k : ℕ) (b1 : List ℕ) → slice_get d.nodes k ≡ Some (Many i) → FitWidths d v → ManyFollow d i (o + length b1) v b2 → Stands d i o b1 b2
+  pub many_stands_followed : {i o : ℕ} {v : Values} {b2 : List ℕ} (k : ℕ) (b1 : List ℕ)
+      → slice_get d.nodes k ≡ Some (Many i) → FitWidths d v → ManyFollow d i (o + length b1) v b2 → Stands d i o b1 b2
   many_stands_followed {i} {o} {v} {b2} k b1 at widths h =
       record { behind = here.known.many_followed d k i (o + length b1) v b2 here.is at widths h }

@@ -1,5 +1,6 @@
 -- Counts, by the numbers that are kept of labelled fields.
-use Rattle.std.proofs.Common.{◌≡◌, ℕ, ◌+◌, ◌*◌, ◌<◌, ◌≤◌, ◌==◌, Bool, true, false, if◌then◌else◌, eqb-true, List, [], ◌∷◌, ◌++◌, length, length-append, reverse, refl, sym, ◌∙◌, ap, subst, arith, Some}
+use Rattle.std.proofs.Common.{◌≡◌, ℕ, ◌+◌, ◌*◌, ◌<◌, ◌≤◌, ◌==◌, Bool, true, false, if◌then◌else◌, eqb-true, List, []}
+use Rattle.std.proofs.Common.{◌∷◌, ◌++◌, length, length-append, reverse, refl, sym, ◌∙◌, ap, subst, arith, Some}
 use Rattle.std.specs.Prelude.{IsTrue, count_by, cond}
 use Rattle.std.specs.Option.{option_map}
 use Rattle.std.proofs.lemmas.List.{reverse-append}
@@ -23,13 +24,17 @@ module _ (d : DescV) where
       here : Number
       here = record { field = last.0; value = number_of last.1 }
 
-      by : value_in field (reverse (numbers_of d earlier)) ≡ value_of earlier field → (kept : Bool) → is_counted d.nodes last.0 ≡ kept → value_in field (reverse (numbers_of d (last ∷ earlier))) ≡ value_of (last ∷ earlier) field
+      by : value_in field (reverse (numbers_of d earlier)) ≡ value_of earlier field → (kept : Bool)
+          → is_counted d.nodes last.0 ≡ kept → value_in field (reverse (numbers_of d (last ∷ earlier))) ≡ value_of
+          (last ∷ earlier) field
       by before true is =
-          let all : numbers_of d (last ∷ earlier) ≡ numbers_of d earlier ++ here ∷ [] = ap (λ b. if b then numbers_of d earlier ++ here ∷ [] else numbers_of d earlier) is in
+          let all : numbers_of d (last ∷ earlier) ≡ numbers_of d earlier ++ here ∷ [] =
+          ap (λ b. if b then numbers_of d earlier ++ here ∷ [] else numbers_of d earlier) is in
           ap (λ l. value_in field (reverse l)) all ∙ ap (λ l. value_in field l) (reverse-append (numbers_of d earlier) (here ∷ []))
           ∙ ap (λ n. if last.0 == field then Some (number_of last.1) else n) before
       by before false is =
-          let all : numbers_of d (last ∷ earlier) ≡ numbers_of d earlier = ap (λ b. if b then numbers_of d earlier ++ here ∷ [] else numbers_of d earlier) is in
+          let all : numbers_of d (last ∷ earlier) ≡ numbers_of d earlier =
+          ap (λ b. if b then numbers_of d earlier ++ here ∷ [] else numbers_of d earlier) is in
           ap (λ l. value_in field (reverse l)) all ∙ before ∙ other (last.0 == field) refl
         where
           other : (same : Bool) → (last.0 == field) ≡ same → value_of earlier field ≡ value_of (last ∷ earlier) field
@@ -48,7 +53,8 @@ module _ (d : DescV) where
     pub is : value_of v field ≡ Some number
     pub counted : is_counted d.nodes field ≡ true
 
-  pub on_field : (numbers : List Number) (v : Values) (count : Count) (m field c : ℕ) → count ≡ Counted m field c → KeepsCount d v numbers count → OnField numbers v field c
+  pub on_field : (numbers : List Number) (v : Values) (count : Count) (m field c : ℕ)
+      → count ≡ Counted m field c → KeepsCount d v numbers count → OnField numbers v field c
   on_field numbers v count m field c is keeps =
       let P : Count → Type 0 = λ k. HasNumber d v k in
       by (subst P is keeps.has)
@@ -65,7 +71,8 @@ module _ (d : DescV) where
           }
 
   -- the number that is kept is that of all values of which these numbers are kept
-  pub count_same : (numbers : List Number) (v seen : Values) (count : Count) (m field c number sum : ℕ) → count ≡ Counted m field c → KeepsCount d v numbers count
+  pub count_same : (numbers : List Number) (v seen : Values) (count : Count) (m field c number sum : ℕ)
+      → count ≡ Counted m field c → KeepsCount d v numbers count
       → numbers ≡ numbers_of d seen → value_in field (reverse numbers) ≡ Some number → sum ≡ m * number + c → count_of seen count ≡ Some sum
   count_same numbers v seen count m field c number sum is keeps kept found all =
       let on = on_field numbers v count m field c is keeps in
@@ -85,7 +92,8 @@ module _ (d : DescV) where
       kept_if : (counted : Bool) → List Number
       kept_if counted = if counted then numbers_of d earlier ++ record { field = last.0; value = number_of last.1 } ∷ [] else numbers_of d earlier
 
-      sum : (counted : Bool) → length (numbers_of d earlier) ≡ count_by (is_counted d.nodes) (fields_of earlier) → length (kept_if counted) ≡ cond counted 1 0 + count_by (is_counted d.nodes) (fields_of earlier)
+      sum : (counted : Bool) → length (numbers_of d earlier) ≡ count_by (is_counted d.nodes) (fields_of earlier)
+          → length (kept_if counted) ≡ cond counted 1 0 + count_by (is_counted d.nodes) (fields_of earlier)
       sum true so_far = omega (arith, so_far, length-append (numbers_of d earlier) (record { field = last.0; value = number_of last.1 } ∷ []))
       sum false so_far = omega (arith, so_far)
 

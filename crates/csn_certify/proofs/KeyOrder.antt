@@ -1,5 +1,6 @@
 -- Keys in the order of their words, and words that meet a set of keys.
-use Rattle.std.proofs.Common.{◌≡◌, ℕ, zero, suc, ◌+◌, ◌<◌, ◌≤◌, ◌⊎◌, inl, inr, Bool, List, [], ◌∷◌, ◌++◌, length, refl, sym, ◌∙◌, ap, subst, arith, Some, None, slice_get, append-nil, length-append}
+use Rattle.std.proofs.Common.{◌≡◌, ℕ, zero, suc, ◌+◌, ◌<◌, ◌≤◌, ◌⊎◌, inl, inr, Bool, List, [], ◌∷◌, ◌++◌, length}
+use Rattle.std.proofs.Common.{refl, sym, ◌∙◌, ap, subst, arith, Some, None, slice_get, append-nil, length-append}
 use Rattle.std.specs.Prelude.{IsTrue}
 use Rattle.std.proofs.lemmas.Option.{slice_get_within}
 use Rattle.csn_desc.proofs.BitFacts.{IsBits-front, IsBits-along}
@@ -61,7 +62,8 @@ rising_at (key ∷ keys) (suc m) zero a b rising at_m at_n less = absurd (omega 
 rising_at (key ∷ keys) (suc m) (suc n) a b rising at_m at_n less = rising_at keys m n a b rising.1 at_m at_n (omega (arith, less))
 
 -- the word of an earlier key is not after that of a later one
-pub text_at : (keys : List Key) (m n : ℕ) (a b : Key) → IsRising keys → slice_get keys m ≡ Some a → slice_get keys n ≡ Some b → m ≤ n → NotAfter (text_of a.word) (text_of b.word)
+pub text_at : (keys : List Key) (m n : ℕ) (a b : Key) → IsRising keys → slice_get keys m ≡ Some a
+    → slice_get keys n ≡ Some b → m ≤ n → NotAfter (text_of a.word) (text_of b.word)
 text_at keys m n a b rising at_m at_n most =
     elim (order m n) [
       | first_less less ↦ text_before a b (rising_at keys m n a b rising at_m at_n less)
@@ -87,7 +89,13 @@ module _ (marks : List ℕ) (P : List ℕ → Bool → Type 0) (are : KeysAre ma
       let front : IsWord b.front = record { bits = bits; short = omega (arith, size, short, length-append b.front b.back) } in
       record { other = b.front; mark = b.whole; key = (are b.front b.whole front).0 b.key; begun = inl (b.back, b.parts) }
   meets_with (inr s) =
-      record { other = word ++ s.next ∷ s.back; mark = s.whole; key = (are (word ++ s.next ∷ s.back) s.whole s.word).0 s.key; begun = inr (s.next ∷ s.back, refl) }
+      record {
+        other = word ++ s.next ∷ s.back;
+        mark = s.whole;
+        key =
+            (are (word ++ s.next ∷ s.back) s.whole s.word).0 s.key;
+        begun = inr (s.next ∷ s.back, refl);
+      }
 
   pub with_meets : (other : List ℕ) (mark : Bool) → IsWord other → P other mark → AreBegun word other → Meets marks word
   with_meets other mark good key (inl long) =
@@ -113,7 +121,8 @@ module _ (marks : List ℕ) (keys : List Key) where
   abbrev pub NoneMeetBelow : ℕ → Type 0
   NoneMeetBelow count = (n : ℕ) → n < count → ¬ MeetsAt marks keys n
 
-  pub meeting_found : (at : ℕ) (key : Key) → slice_get keys at ≡ Some key → Meets marks key.word → NoneMeetBelow at → IsLeastFrom 0 (MeetsAt marks keys) (Some at)
+  pub meeting_found : (at : ℕ) (key : Key) → slice_get keys at ≡ Some key → Meets marks key.word → NoneMeetBelow at
+      → IsLeastFrom 0 (MeetsAt marks keys) (Some at)
   meeting_found at key is meets before = (omega arith, (key, is, meets), (λ m up less. before m less))
 
   pub meeting_more : (at : ℕ) (key : Key) → slice_get keys at ≡ Some key → ¬ Meets marks key.word → NoneMeetBelow at → NoneMeetBelow (at + 1)

@@ -1,5 +1,7 @@
 -- How the strings of nodes are laid out: of each kind that has a layout, and of parts one after another.
-use Rattle.std.proofs.Common.{◌≡◌, ℕ, ◌+◌, ◌*◌, false, List, [], ◌∷◌, ◌++◌, length, take, drop, refl, sym, ◌∙◌, ap, subst, arith, append_assoc, append-nil, length-append, take-append-drop, Some, slice_get}
+use Rattle.std.proofs.Common.{◌≡◌, ℕ, ◌+◌, ◌*◌, false, List, [], ◌∷◌, ◌++◌, length, take, drop, refl, sym, ◌∙◌, ap}
+use Rattle.std.proofs.Common.{subst, arith, append_assoc, append-nil, length-append, take-append-drop, Some}
+use Rattle.std.proofs.Common.{slice_get}
 use Rattle.std.specs.Prelude.{replicate}
 use Rattle.std.proofs.lemmas.List.{length-replicate, length-take-le, length-drop, nil_from_length}
 use Rattle.csn_bits.specs.Octets.{IsBits}
@@ -106,7 +108,8 @@ module _ (d : DescV) where
         let same : n ≡ m = cc in
         record { rest = b; cut = refl; count = size ∙ ap (λ k. unit * k) (sym same) }
 
-    field_one : {o : ℕ} {v : Values} {b : List ℕ} {s t : TreeV} → NodeMeans d (Field unit (Fixed n)) o v b s → NodeMeans d (Field unit (Fixed n)) o v b t → s ≡ t
+    field_one : {o : ℕ} {v : Values} {b : List ℕ} {s t : TreeV} → NodeMeans d (Field unit (Fixed n)) o v b s
+        → NodeMeans d (Field unit (Fixed n)) o v b t → s ≡ t
     field_one (means_field m counts size are) (means_field k other long is) = refl
 
     field_begins : {o : ℕ} {v : Values} (b : List ℕ) → NodeFollows d (Field unit (Fixed n)) o v b → NodeBegins d (Field unit (Fixed n)) o v b
@@ -166,7 +169,8 @@ module _ (d : DescV) where
     }
 
   -- a node of such a kind, on which no counts stand
-  pub node_laid : {n : Node} {front : List ℕ} {others : ℕ} (i : ℕ) → slice_get d.nodes i ≡ Some n → is_counted d.nodes i ≡ false → IsNodeLaid d n front others → IsLaid d i front others
+  pub node_laid : {n : Node} {front : List ℕ} {others : ℕ} (i : ℕ) → slice_get d.nodes i ≡ Some n
+      → is_counted d.nodes i ≡ false → IsNodeLaid d n front others → IsLaid d i front others
   node_laid {n} i at plain is = record {
     string = λ o v b t h. is.string o v b t (meaning_at d at h);
     means = λ o v rest size are. (let h = is.means o v rest size are in (h.0, means_at n at h.1));
@@ -251,7 +255,8 @@ joins_any f k m = record {
 }
 
 module _ (d : DescV) (i : ℕ) (parts f : List ℕ) (k : ℕ) (g : List ℕ) (m : ℕ) (first : IsLaid d i f k) (all : ArePartsLaid d parts g m) where
-  more_string : {front : List ℕ} {others : ℕ} → Joins f k g m front others → {o : ℕ} {v : Values} {b : List ℕ} {ts : Trees} → PartsMean d (i ∷ parts) o v b ts → HasFront front others b
+  more_string : {front : List ℕ} {others : ℕ} → Joins f k g m front others → {o : ℕ} {v : Values} {b : List ℕ}
+      {ts : Trees} → PartsMean d (i ∷ parts) o v b ts → HasFront front others b
   more_string {front} {others} joins {o} {v} (parts_next {t = t} {ts = ts} b1 b2 is h hs) =
       let one = first.string o v b1 t h in
       let rest = all.string (o + length b1) (with_value d.nodes i b1 v) b2 ts hs in

@@ -1,5 +1,7 @@
 -- What layouts tell by their numbers: those that the code makes are the layouts of what it makes them of.
-use Rattle.std.proofs.Common.{◌≡◌, ◌≢◌, ℕ, suc, ◌+◌, ◌-◌, ◌*◌, ◌/◌, ◌%◌, ◌^◌, ◌<◌, ◌≤◌, false, List, [], ◌∷◌, ◌++◌, length, take, sym, ◌∙◌, ap, subst, arith, lit<, inl, inr, Option, Some, None, slice_get, get_or-set_same, get_or-set_other}
+use Rattle.std.proofs.Common.{◌≡◌, ◌≢◌, ℕ, suc, ◌+◌, ◌-◌, ◌*◌, ◌/◌, ◌%◌, ◌^◌, ◌<◌, ◌≤◌, false, List, [], ◌∷◌, ◌++◌}
+use Rattle.std.proofs.Common.{length, take, sym, ◌∙◌, ap, subst, arith, lit<, inl, inr, Option, Some, None, slice_get}
+use Rattle.std.proofs.Common.{get_or-set_same, get_or-set_other}
 use Rattle.std.specs.Prelude.{IfSome, slice_set, slice_index_or}
 use Rattle.std.specs.Int.Bits.{bit_or}
 use Rattle.std.proofs.Math.ListN.{length-set}
@@ -29,7 +31,9 @@ use Rattle.csn_certify.proofs.LaidOut.{lits_laid, null_laid, field_laid, named_l
 
 -- ---- a number that is read
 
-pub admitted : (d : DescV) (i o : ℕ) (v : Values) (layout : Layout) (number : ℕ) → number / 2 ^ (layout.width - layout.fixed) ≡ layout.number → HasLayout d i layout → (t : TreeV) × NMeans d i o v (low_bits layout.width number) t
+pub admitted : (d : DescV) (i o : ℕ) (v : Values) (layout : Layout) (number : ℕ)
+    → number / 2 ^ (layout.width - layout.fixed) ≡ layout.number → HasLayout d i layout → (t : TreeV)
+    × NMeans d i o v (low_bits layout.width number) t
 admitted d i o v layout number same h =
     let others = layout.width - layout.fixed in
     let rest = low_bits others number in
@@ -44,11 +48,17 @@ admitted d i o v layout number same h =
 pub short_of : {d : DescV} {i : ℕ} {layout : Layout} → HasLayout d i layout → IsShort layout
 short_of h = record { few = h.few; within = h.within; small = h.small }
 
-pub node_layout : (d : DescV) (i : ℕ) (n : Node) (layout : Layout) → slice_get d.nodes i ≡ Some n → is_counted d.nodes i ≡ false → HasNodeLayout d n layout → HasLayout d i layout
+pub node_layout : (d : DescV) (i : ℕ) (n : Node) (layout : Layout) → slice_get d.nodes i ≡ Some n
+    → is_counted d.nodes i ≡ false → HasNodeLayout d n layout → HasLayout d i layout
 node_layout d i n layout at plain h = record { few = h.short.few; within = h.short.within; small = h.short.small; laid = node_laid d i at plain h.laid }
 
 pub named_layout : (d : DescV) (label : List ℕ) (i : ℕ) (layout : Layout) → HasLayout d i layout → HasNodeLayout d (Named label i) layout
-named_layout d label i layout h = record { short = short_of h; laid = named_laid d label i (low_bits layout.fixed layout.number) (layout.width - layout.fixed) h.laid }
+named_layout d label i layout h =
+    record {
+      short = short_of h;
+      laid = named_laid d label i (low_bits layout.fixed layout.number)
+          (layout.width - layout.fixed) h.laid;
+    }
 
 pub seq_layout : (d : DescV) (parts : List ℕ) (layout : Layout) → HavePartsLayout d parts layout → HasNodeLayout d (Seq parts) layout
 seq_layout d parts layout h = record { short = h.short; laid = seq_laid d parts (low_bits layout.fixed layout.number) (layout.width - layout.fixed) h.laid }
@@ -65,7 +75,8 @@ null_layout d = record { short = no_bits_short; laid = null_laid d }
 pub nothing_layout : (d : DescV) → HavePartsLayout d [] no_bits
 nothing_layout d = record { short = no_bits_short; laid = nothing_laid d }
 
-pub field_layout : (d : DescV) (unit n width : ℕ) (count : Count) → count ≡ Fixed n → width ≡ unit * n → width ≤ 56 → HasNodeLayout d (Field unit count) (record { width = width; fixed = 0; number = 0 })
+pub field_layout : (d : DescV) (unit n width : ℕ) (count : Count) → count ≡ Fixed n → width ≡ unit * n → width ≤ 56
+    → HasNodeLayout d (Field unit count) (record { width = width; fixed = 0; number = 0 })
 field_layout d unit n width count fixed is few =
     let P : ℕ → Type 0 = λ k. IsNodeLaid d (Field unit (Fixed n)) [] k in
     let Q : Count → Type 0 = λ k. IsNodeLaid d (Field unit k) [] (width - 0) in
@@ -77,7 +88,8 @@ field_layout d unit n width count fixed is few =
 
 -- ---- literals
 
-spelled_push : (front : List Symbol) (s : Symbol) (bit place : ℕ) → ((o : ℕ) → symbol_bit s o ≡ bit) → spelled (front ++ s ∷ []) place ≡ spelled front place ++ bit ∷ []
+spelled_push : (front : List Symbol) (s : Symbol) (bit place : ℕ) → ((o : ℕ) → symbol_bit s o ≡ bit)
+    → spelled (front ++ s ∷ []) place ≡ spelled front place ++ bit ∷ []
 spelled_push [] s bit place same = ap (λ b. b ∷ []) (same place)
 spelled_push (x ∷ front) s bit place same = ap (λ l. symbol_bit x place ∷ l) (spelled_push front s bit (suc place) same)
 
@@ -89,7 +101,9 @@ Writes run at number = (number < 2 ^ at) × ((o : ℕ) → spelled (take at run)
 pub bit_small : (s : Symbol) (bit : ℕ) → ((o : ℕ) → symbol_bit s o ≡ bit) → bit ≤ 1
 bit_small s bit same = let small = symbol_bit-le-one s 0 in let is = same 0 in omega arith
 
-pub writes_more : (run : List Symbol) (at number bit : ℕ) (s : Symbol) → slice_get run at ≡ Some s → ((o : ℕ) → symbol_bit s o ≡ bit) → Writes run at number → Writes run (at + 1) (2 * number + bit)
+pub writes_more : (run : List Symbol) (at number bit : ℕ) (s : Symbol)
+    → slice_get run at ≡ Some s → ((o : ℕ) → symbol_bit s o ≡ bit)
+    → Writes run at number → Writes run (at + 1) (2 * number + bit)
 writes_more run at number bit s here same h =
     let small = bit_small s bit same in
     let low = h.0 in
@@ -106,7 +120,9 @@ writes_more run at number bit s here same h =
       (λ o. ap (λ l. spelled l o) symbols ∙ spelled_push (take at run) s bit o same ∙ ap (λ l. l ++ bit ∷ []) (h.1 o) ∙ sym written),
     )
 
-pub literal_layout : (d : DescV) (run : List Symbol) (width at number : ℕ) → width ≡ length run → width ≤ 56 → at ≡ width → Writes run at number → HasNodeLayout d (Lits run) (record { width = width; fixed = width; number = number })
+pub literal_layout : (d : DescV) (run : List Symbol) (width at number : ℕ) → width ≡ length run → width ≤ 56
+    → at ≡ width → Writes run at number
+    → HasNodeLayout d (Lits run) (record { width = width; fixed = width; number = number })
 literal_layout d run width at number is few end h =
     let none : 0 ≡ width - width = omega arith in
     let whole : take at run ≡ run = take_all at run (omega (arith, is, end)) in
@@ -155,7 +171,8 @@ module _ (first behind : Layout) (one : IsShort first) (other : IsShort behind) 
       let none : first.width - first.fixed ≡ 0 = omega arith in
       let P : ℕ → Type 0 = λ k. IsLaid d i front k in
       let laid = same_before d i parts front back (behind.width - behind.fixed) (subst P none h.laid) hs.laid in
-      let bits : low_bits same_whole.fixed same_whole.number ≡ front ++ back = low_bits-shifted first.fixed behind.fixed first.number behind.number (omega arith) other.small in
+      let bits : low_bits same_whole.fixed same_whole.number ≡ front ++ back =
+      low_bits-shifted first.fixed behind.fixed first.number behind.number (omega arith) other.small in
       let size : behind.width - behind.fixed ≡ same_whole.width - same_whole.fixed = omega arith in
       let Q : ℕ → Type 0 = λ k. ArePartsLaid d (i ∷ parts) (front ++ back) k in
       let R : List ℕ → Type 0 = λ l. ArePartsLaid d (i ∷ parts) l (same_whole.width - same_whole.fixed) in
@@ -183,16 +200,20 @@ module _ (first behind : Layout) (one : IsShort first) (other : IsShort behind) 
 
 -- ---- the layouts of all nodes
 
-shown : (d : DescV) (layouts : List (Option Layout)) (i : ℕ) (layout : Option Layout) → AreLayouts d layouts → slice_get layouts i ≡ Some layout → IfSome layout (HasLayout d i)
+shown : (d : DescV) (layouts : List (Option Layout)) (i : ℕ) (layout : Option Layout)
+    → AreLayouts d layouts → slice_get layouts i ≡ Some layout → IfSome layout (HasLayout d i)
 shown d layouts i None are at = tt
 shown d layouts i (Some layout) are at = are.each i layout at
 
 -- what the table has of a node
-pub layout_at : (d : DescV) (layouts : List (Option Layout)) (i : ℕ) → AreLayouts d layouts → i < length layouts → IfSome (slice_index_or layouts i None) (HasLayout d i)
+pub layout_at : (d : DescV) (layouts : List (Option Layout)) (i : ℕ) → AreLayouts d layouts → i < length layouts
+    → IfSome (slice_index_or layouts i None) (HasLayout d i)
 layout_at d layouts i are inside = shown d layouts i (slice_index_or layouts i None) are (slice_get-get_or layouts i None inside)
 
 -- one node more
-pub layouts_more : (d : DescV) (layouts : List (Option Layout)) (i : ℕ) (layout : Option Layout) → AreLayouts d layouts → i < length layouts → IfSome layout (HasLayout d i) → AreLayouts d (slice_set layouts i layout)
+pub layouts_more : (d : DescV) (layouts : List (Option Layout)) (i : ℕ) (layout : Option Layout)
+    → AreLayouts d layouts → i < length layouts → IfSome layout (HasLayout d i)
+    → AreLayouts d (slice_set layouts i layout)
 layouts_more d layouts i layout are inside is = record { many = length-set layouts i layout ∙ are.many; each = each }
   where
     each : (j : ℕ) (l : Layout) → slice_get (slice_set layouts i layout) j ≡ Some (Some l) → HasLayout d j l

@@ -10,7 +10,9 @@ use Rattle.csn_certify.specs.declared.conflict.Conflict.TheVariants.{TwoEmpty, O
 use Rattle.csn_certify.specs.declared.pick.Pick.{Pick}
 use Rattle.csn_certify.specs.declared.pick.Pick.TheVariants.{Take, Leave, Wait, Refuse}
 use Rattle.csn_certify.specs.Conflicts.{Certified, two_empty, overlap}
-use Rattle.csn_certify.specs.Picks.{IsAsked, asked_choice, asked_many, BeginsWithKey, BeginsKey, TakesNone, Picks, pick_key, pick_none, pick_wait, pick_refuse, pick_bit, pick_again, pick_leave, pick_ended}
+use Rattle.csn_certify.specs.Picks.{IsAsked, asked_choice, asked_many, BeginsWithKey, BeginsKey, TakesNone, Picks}
+use Rattle.csn_certify.specs.Picks.{pick_key, pick_none, pick_wait, pick_refuse, pick_bit, pick_again, pick_leave}
+use Rattle.csn_certify.specs.Picks.{pick_ended}
 
 module _ (d : DescV) (most : ℕ) where
   -- an answer at a choice with these alternatives
@@ -31,7 +33,9 @@ module _ (d : DescV) (most : ℕ) where
         → (ended ≡ false → ¬ BeginsKey d most parts octet held)
         → Chosen node octet parts held ended p
 
-  chosen : {node octet : ℕ} {parts held : List ℕ} {ended : Bool} {p : Pick} → slice_get d.nodes node ≡ Some (Choice parts) → Picks d most node octet held ended p → Chosen node octet parts held ended p
+  chosen : {node octet : ℕ} {parts held : List ℕ} {ended : Bool} {p : Pick}
+      → slice_get d.nodes node ≡ Some (Choice parts) → Picks d most node octet held ended p
+      → Chosen node octet parts held ended p
   chosen {octet = octet} {parts = parts} {held = held} at (pick_key {j = j} those is h) =
       let same : those ≡ parts = cc in
       let P : List ℕ → Type 0 = λ l. BeginsWithKey d most l octet held j in
@@ -65,7 +69,8 @@ module _ (d : DescV) (most : ℕ) where
     over : (bit : ℕ) (rest : List ℕ) → p ≡ Leave → held ≡ bit ∷ rest → ¬ InStart d part octet bit → Turned part octet held ended p
     at_end : p ≡ Leave → held ≡ [] → ended ≡ true → Turned part octet held ended p
 
-  turned : {node part octet : ℕ} {held : List ℕ} {ended : Bool} {p : Pick} → slice_get d.nodes node ≡ Some (Many part) → Picks d most node octet held ended p → Turned part octet held ended p
+  turned : {node part octet : ℕ} {held : List ℕ} {ended : Bool} {p : Pick} → slice_get d.nodes node ≡ Some (Many part)
+      → Picks d most node octet held ended p → Turned part octet held ended p
   turned at (pick_bit those is goes_on) = needs_bit refl refl goes_on
   turned {part = part} {octet = octet} at (pick_again {bit = bit} {rest = rest} those is start) =
       let same : those ≡ part = cc in
@@ -113,10 +118,14 @@ module _ (d : DescV) (most : ℕ) (certified : Certified d most) where
           | equal_numbers same ↦ same
           | first_less less ↦
               let both = begun_both a.word a.begins.0 b.word b.begins.0 [] [] a.begins.1 b.begins.1 refl in
-              absurd (certified (Overlap node octet j k a.word b.word) (overlap a.mark b.mark at reached less a.is_part b.is_part a.takes_bits b.takes_bits a.key b.key both))
+              absurd (certified (Overlap node octet j k a.word b.word)
+              (overlap a.mark b.mark at reached less a.is_part b.is_part a.takes_bits b.takes_bits a.key b.key
+              both))
           | second_less less ↦
               let both = begun_both b.word b.begins.0 a.word a.begins.0 [] [] b.begins.1 a.begins.1 refl in
-              absurd (certified (Overlap node octet k j b.word a.word) (overlap b.mark a.mark at reached less b.is_part a.is_part b.takes_bits a.takes_bits b.key a.key both))
+              absurd (certified (Overlap node octet k j b.word a.word)
+              (overlap b.mark a.mark at reached less b.is_part a.is_part b.takes_bits a.takes_bits b.key a.key
+              both))
         ]
 
     one_none : {ended : Bool} {i j : ℕ} → TakesNone d most node parts octet held ended i → TakesNone d most node parts octet held ended j → i ≡ j
@@ -145,6 +154,7 @@ module _ (d : DescV) (most : ℕ) (certified : Certified d most) where
     one_chosen (never a no_key no_none no_more) (later b also nor goes_on g) = absurd (no_more goes_on g)
     one_chosen (never a no_key no_none no_more) (never b also nor too) = a ∙ sym b
 
-  pub one_pick : {node octet : ℕ} {held : List ℕ} {ended : Bool} {p q : Pick} → IsAsked d node octet → Picks d most node octet held ended p → Picks d most node octet held ended q → p ≡ q
+  pub one_pick : {node octet : ℕ} {held : List ℕ} {ended : Bool} {p q : Pick}
+      → IsAsked d node octet → Picks d most node octet held ended p → Picks d most node octet held ended q → p ≡ q
   one_pick (asked_choice parts at reached) a b = one_chosen at reached (chosen d most at a) (chosen d most at b)
   one_pick (asked_many part at reached) a b = one_turned d most (turned d most at a) (turned d most at b)

@@ -1,5 +1,6 @@
 -- The search for the first overlap of a choice at an octet position.
-use Rattle.std.proofs.Common.{◌≡◌, ℕ, ◌+◌, ◌<◌, ◌≤◌, ◌⊎◌, ◌↔◌, inl, inr, Bool, true, List, [], ◌∷◌, ◌++◌, length, refl, sym, ◌∙◌, ap, subst, arith, Option, Some, None, slice_get}
+use Rattle.std.proofs.Common.{◌≡◌, ℕ, ◌+◌, ◌<◌, ◌≤◌, ◌⊎◌, ◌↔◌, inl, inr, Bool, true, List, [], ◌∷◌, ◌++◌, length}
+use Rattle.std.proofs.Common.{refl, sym, ◌∙◌, ap, subst, arith, Option, Some, None, slice_get}
 use Rattle.std.specs.Prelude.{IsTrue}
 use Rattle.std.proofs.lemmas.Option.{slice_get_within, slice_get_read, get_or_from_slice_get}
 use Rattle.csn_desc.specs.declared.node.Node.TheVariants.{Choice}
@@ -36,15 +37,23 @@ module _ (d : DescV) (octet p : ℕ) (keys : List Key) (lists : ListsKeys keys (
       (found.0, slice_get_read keys (length keys) found.0 (record { word = word; whole = mark }) refl found.1 (sym found.2))
 
   module _ (marks : List ℕ) (P : List ℕ → Bool → Type 0) (are : KeysAre marks P) where
-    pub none_meets : IsLeastFrom 0 (MeetsAt marks keys) None → (word other : List ℕ) → HasKey d octet p word → (mark : Bool) → IsWord other → P other mark → AreBegun word other → ⊥
+    pub none_meets : IsLeastFrom 0 (MeetsAt marks keys) None → (word other : List ℕ)
+        → HasKey d octet p word → (mark : Bool) → IsWord other → P other mark → AreBegun word other → ⊥
     none_meets none word other key mark good is begun =
         let place = place_of_key word key.0 key.1 in
         none place.0 (omega arith) (record { word = word; whole = key.0 }, place.1, with_meets marks P are word (key_word d key.1) other mark good is begun)
 
-    pub first_meets : (at : ℕ) (first : Key) → IsLeastFrom 0 (MeetsAt marks keys) (Some at) → slice_get keys at ≡ Some first → (word other : List ℕ) → HasKey d octet p word → (mark : Bool) → IsWord other → P other mark → AreBegun word other → NotAfter (text_of first.word) (text_of word)
+    pub first_meets : (at : ℕ) (first : Key) → IsLeastFrom 0 (MeetsAt marks keys) (Some at)
+        → slice_get keys at ≡ Some first → (word other : List ℕ) → HasKey d octet p word → (mark : Bool)
+        → IsWord other → P other mark → AreBegun word other → NotAfter (text_of first.word) (text_of word)
     first_meets at first least is word other key mark good holds begun =
         let place = place_of_key word key.0 key.1 in
-        let most = least_number 0 at place.0 (MeetsAt marks keys) least (omega arith) (record { word = word; whole = key.0 }, place.1, with_meets marks P are word (key_word d key.1) other mark good holds begun) in
+        let most = least_number 0 at place.0 (MeetsAt marks keys) least (omega arith) (
+          record { word = word; whole = key.0 },
+          place.1,
+          with_meets marks P are word (key_word d key.1)
+              other mark good holds begun,
+        ) in
         text_at keys at place.0 first (record { word = word; whole = key.0 }) lists.rising is place.1 most
 
     -- and it does meet it
@@ -70,11 +79,13 @@ only_key empty only word none adds key mark is = (
   (λ h. (adds key mark is).1 (inr h)),
 )
 
-module _ (d : DescV) (octet p : ℕ) (keys : List Key) (lists : ListsKeys keys (InKeys d 12 p octet)) (marks word : List ℕ) (is : IsWord word) (are : KeysAre marks (IsOnly word)) where
+module _ (d : DescV) (octet p : ℕ) (keys : List Key) (lists : ListsKeys keys (InKeys d 12 p octet))
+    (marks word : List ℕ) (is : IsWord word) (are : KeysAre marks (IsOnly word)) where
   pub begun_none : IsLeastFrom 0 (MeetsAt marks keys) None → IsFirstBegun d octet p word None
   begun_none none w key begun = none_meets d octet p keys lists marks (IsOnly word) are none w word key true is (refl, refl) (swapped word w begun)
 
-  pub begun_some : (at : ℕ) (first : Key) → IsLeastFrom 0 (MeetsAt marks keys) (Some at) → slice_get keys at ≡ Some first → IsFirstBegun d octet p word (Some first.word)
+  pub begun_some : (at : ℕ) (first : Key) → IsLeastFrom 0 (MeetsAt marks keys) (Some at)
+      → slice_get keys at ≡ Some first → IsFirstBegun d octet p word (Some first.word)
   begun_some at first least at_is =
       let met = at_meets d octet p keys lists marks (IsOnly word) are at first least at_is in
       let same = met.key.0 in (
@@ -177,7 +188,8 @@ module _ (d : DescV) (node : ℕ) (parts : List ℕ) (at : slice_get d.nodes nod
   pub overlap_none : IsLeastFrom 0 (Overlaps d octet parts) None → IsFirstUnder d (node ∷ 3 ∷ octet ∷ 3 ∷ []) None
   overlap_none none c under holds = let o = of_overlap [] c under holds in none o.i (omega arith) (overlaps_of c o)
 
-  pub overlap_some : (i : ℕ) (r : Option Conflict) → Reached d node octet → IsLeastFrom 0 (Overlaps d octet parts) (Some i) → IsFirstUnder d (node ∷ 3 ∷ octet ∷ 3 ∷ i ∷ []) r → IsFirstUnder d (node ∷ 3 ∷ octet ∷ 3 ∷ []) r
+  pub overlap_some : (i : ℕ) (r : Option Conflict) → Reached d node octet → IsLeastFrom 0 (Overlaps d octet parts)
+      (Some i) → IsFirstUnder d (node ∷ 3 ∷ octet ∷ 3 ∷ i ∷ []) r → IsFirstUnder d (node ∷ 3 ∷ octet ∷ 3 ∷ []) r
   overlap_some i None reached least h =
       let o = least.1 in
       absurd (h (Overlap node octet i o.key_j.j o.word_i o.word_j) (o.key_j.j ∷ (text_of o.word_i ++ text_of o.word_j), refl) (conflict_of i reached o))
@@ -199,20 +211,25 @@ module _ (d : DescV) (node : ℕ) (parts : List ℕ) (at : slice_get d.nodes nod
       let later = o.less in
       absurd (omega (arith, less, first, second, later))
 
-  pub second_end : (i count : ℕ) → length parts ≤ count → NoneBelow d (node ∷ 3 ∷ octet ∷ 3 ∷ i ∷ []) count → IsFirstUnder d (node ∷ 3 ∷ octet ∷ 3 ∷ i ∷ []) None
+  pub second_end : (i count : ℕ) → length parts ≤ count → NoneBelow d (node ∷ 3 ∷ octet ∷ 3 ∷ i ∷ []) count
+      → IsFirstUnder d (node ∷ 3 ∷ octet ∷ 3 ∷ i ∷ []) None
   second_end i count all below c under holds =
       let o = of_overlap (i ∷ []) c under holds in
       let first = same_first i [] c o under in
       let inside = slice_get_within parts o.j o.q o.part_j.is_part in
-      let rank : rank_of c ≡ node ∷ 3 ∷ octet ∷ 3 ∷ i ∷ o.j ∷ (text_of o.word_i ++ text_of o.word_j) = rank_at c o ∙ ap (λ k. node ∷ 3 ∷ octet ∷ 3 ∷ k ∷ o.j ∷ (text_of o.word_i ++ text_of o.word_j)) first in
+      let rank : rank_of c ≡ node ∷ 3 ∷ octet ∷ 3 ∷ i ∷ o.j ∷ (text_of o.word_i ++ text_of o.word_j) = rank_at c o
+      ∙ ap (λ k. node ∷ 3 ∷ octet ∷ 3 ∷ k ∷ o.j ∷ (text_of o.word_i ++ text_of o.word_j)) first in
       below o.j (omega (arith, all, inside)) c (text_of o.word_i ++ text_of o.word_j, rank) holds
 
-  pub second_found : (i j : ℕ) (c : Conflict) → NoneBelow d (node ∷ 3 ∷ octet ∷ 3 ∷ i ∷ []) j → IsFirstUnder d (node ∷ 3 ∷ octet ∷ 3 ∷ i ∷ j ∷ []) (Some c) → IsFirstUnder d (node ∷ 3 ∷ octet ∷ 3 ∷ i ∷ []) (Some c)
+  pub second_found : (i j : ℕ) (c : Conflict) → NoneBelow d (node ∷ 3 ∷ octet ∷ 3 ∷ i ∷ []) j
+      → IsFirstUnder d (node ∷ 3 ∷ octet ∷ 3 ∷ i ∷ j ∷ []) (Some c)
+      → IsFirstUnder d (node ∷ 3 ∷ octet ∷ 3 ∷ i ∷ []) (Some c)
   second_found i j c below h = found_at d (node ∷ 3 ∷ octet ∷ 3 ∷ i ∷ []) j c (branch_at (node ∷ 3 ∷ octet ∷ 3 ∷ i ∷ []) refl) below h
 
   -- ---- the words of two alternatives
 
-  module _ (i j p q : ℕ) (less : i < j) (part : (n : ℕ) × IsPart d octet parts i n) (at_i : slice_get parts i ≡ Some p) (at_j : slice_get parts j ≡ Some q) where
+  module _ (i j p q : ℕ) (less : i < j) (part : (n : ℕ) × IsPart d octet parts i n)
+      (at_i : slice_get parts i ≡ Some p) (at_j : slice_get parts j ≡ Some q) where
     -- the first one, by the number that it has
     part_i : IsPart d octet parts i p
     part_i =
@@ -255,7 +272,9 @@ module _ (d : DescV) (node : ℕ) (parts : List ℕ) (at : slice_get d.nodes nod
     pair_null null c under holds = (pair_of c under holds).real_j null
 
     -- tables that do not meet
-    pub pair_apart : (own table word : List ℕ) → KeysAre own (InKeys d 12 p octet) → KeysAre table (InKeys d 12 q octet) → word ≡ [] → ¬ MeetUnder own table word → IsFirstUnder d (node ∷ 3 ∷ octet ∷ 3 ∷ i ∷ j ∷ []) None
+    pub pair_apart : (own table word : List ℕ) → KeysAre own (InKeys d 12 p octet)
+        → KeysAre table (InKeys d 12 q octet) → word ≡ [] → ¬ MeetUnder own table word
+        → IsFirstUnder d (node ∷ 3 ∷ octet ∷ 3 ∷ i ∷ j ∷ []) None
     pair_apart own table word are_own are empty none c under holds =
         let pair = pair_of c under holds in
         let met : MeetUnder own table [] =
@@ -271,7 +290,8 @@ module _ (d : DescV) (node : ℕ) (parts : List ℕ) (at : slice_get d.nodes nod
       pub pair_none : IsLeastFrom 0 (MeetsAt marks keys) None → IsFirstUnder d (node ∷ 3 ∷ octet ∷ 3 ∷ i ∷ j ∷ []) None
       pair_none none c under holds =
           let pair = pair_of c under holds in
-          none_meets d octet p keys lists marks (InKeys d 12 q octet) are none pair.word_i pair.word_j pair.key_i pair.key_j.0 (key_word d pair.key_j.1) pair.key_j.1 pair.begun
+          none_meets d octet p keys lists marks (InKeys d 12 q octet) are none pair.word_i pair.word_j pair.key_i
+          pair.key_j.0 (key_word d pair.key_j.1) pair.key_j.1 pair.begun
 
       module _ (place : ℕ) (first : Key) (least : IsLeastFrom 0 (MeetsAt marks keys) (Some place)) (is_at : slice_get keys place ≡ Some first) where
         -- the other one has a key that meets the word
@@ -280,7 +300,9 @@ module _ (d : DescV) (node : ℕ) (parts : List ℕ) (at : slice_get d.nodes nod
             let met = at_meets d octet p keys lists marks (InKeys d 12 q octet) are place first least is_at in
             none met.other (met.mark, met.key) met.begun
 
-        pub pair_some : (word : List ℕ) → Reached d node octet → ¬ IsNull d q → IsFirstBegun d octet q first.word (Some word) → IsFirstUnder d (node ∷ 3 ∷ octet ∷ 3 ∷ i ∷ j ∷ []) (Some (Overlap node octet i j first.word word))
+        pub pair_some : (word : List ℕ) → Reached d node octet → ¬ IsNull d q → IsFirstBegun d octet q first.word
+            (Some word) → IsFirstUnder d (node ∷ 3 ∷ octet ∷ 3 ∷ i ∷ j ∷ [])
+            (Some (Overlap node octet i j first.word word))
         pair_some word reached real h = (
           (text_of first.word ++ text_of word, refl),
           overlap first.whole h.0.0 at reached less part_i.is_part at_j part_i.real real (listed_key d octet p keys lists place first is_at) h.0.1 h.1,
@@ -289,7 +311,8 @@ module _ (d : DescV) (node : ℕ) (parts : List ℕ) (at : slice_get d.nodes nod
           where
             first_word : (c : Conflict) (pair : IsPair c) → NotAfter (text_of first.word) (text_of pair.word_i)
             first_word c pair =
-                first_meets d octet p keys lists marks (InKeys d 12 q octet) are place first least is_at pair.word_i pair.word_j pair.key_i pair.key_j.0 (key_word d pair.key_j.1) pair.key_j.1 pair.begun
+                first_meets d octet p keys lists marks (InKeys d 12 q octet) are place first least is_at pair.word_i
+                pair.word_j pair.key_i pair.key_j.0 (key_word d pair.key_j.1) pair.key_j.1 pair.begun
 
             words : (c : Conflict) (pair : IsPair c) → NotAfter (text_of first.word ++ text_of word) (text_of pair.word_i ++ text_of pair.word_j)
             words c pair =
@@ -301,11 +324,13 @@ module _ (d : DescV) (node : ℕ) (parts : List ℕ) (at : slice_get d.nodes nod
                   | inr further ↦ further (text_of word) (text_of pair.word_j)
                 ]
 
-            before : (other : Conflict) → IsUnder (node ∷ 3 ∷ octet ∷ 3 ∷ i ∷ j ∷ []) other → IsConflict d 12 other → NotAfter (rank_of (Overlap node octet i j first.word word)) (rank_of other)
+            before : (other : Conflict) → IsUnder (node ∷ 3 ∷ octet ∷ 3 ∷ i ∷ j ∷ []) other → IsConflict d 12 other
+                → NotAfter (rank_of (Overlap node octet i j first.word word)) (rank_of other)
             before other under holds =
                 let pair = pair_of other under holds in
                 subst (λ (e : Conflict). NotAfter (rank_of (Overlap node octet i j first.word word)) (rank_of e)) (sym pair.is)
-                (first_behind (node ∷ 3 ∷ octet ∷ 3 ∷ i ∷ j ∷ []) (text_of first.word ++ text_of word) (text_of pair.word_i ++ text_of pair.word_j) (words other pair))
+                (first_behind (node ∷ 3 ∷ octet ∷ 3 ∷ i ∷ j ∷ []) (text_of first.word ++ text_of word)
+                (text_of pair.word_i ++ text_of pair.word_j) (words other pair))
 
 -- ---- the alternatives from the last one back
 
@@ -325,7 +350,8 @@ module _ (d : DescV) (octet : ℕ) (parts : List ℕ) where
       let inside = slice_get_within parts n o.p o.part.is_part in absurd (omega (arith, all, inside, up))
 
   -- the least one stays where this one does not overlap
-  pub least_stays : (i : ℕ) (r : Option ℕ) → ¬ Overlaps d octet parts i → IsLeastFrom (i + 1) (Overlaps d octet parts) r → IsLeastFrom i (Overlaps d octet parts) r
+  pub least_stays : (i : ℕ) (r : Option ℕ) → ¬ Overlaps d octet parts i → IsLeastFrom (i + 1) (Overlaps d octet parts)
+      r → IsLeastFrom i (Overlaps d octet parts) r
   least_stays i None good least =
       λ n up o. elim (order n i) [
         | first_less lower ↦ absurd (omega (arith, lower, up))
@@ -352,7 +378,8 @@ module _ (d : DescV) (octet : ℕ) (parts : List ℕ) where
     from_next word mark h = let up = h.later in record { j = h.j; q = h.q; later = omega (arith, up); part = h.part; key = h.key }
 
     -- a key from this alternative on is its own, or a later one's
-    from_here : (word : List ℕ) (mark : Bool) (h : HasKeyFrom d octet parts i word mark) → HasKeyFrom d octet parts (i + 1) word mark ⊎ (IsPart d octet parts i p × InKeys d 12 p octet word mark)
+    from_here : (word : List ℕ) (mark : Bool) (h : HasKeyFrom d octet parts i word mark)
+        → HasKeyFrom d octet parts (i + 1) word mark ⊎ (IsPart d octet parts i p × InKeys d 12 p octet word mark)
     from_here word mark h =
         let up = h.later in
         elim (order h.j i) [
@@ -373,7 +400,9 @@ module _ (d : DescV) (octet : ℕ) (parts : List ℕ) where
       ]),
     )
 
-    pub keys_more : (old own new : List ℕ) → ¬ IsNull d p → KeysAre own (InKeys d 12 p octet) → Adds old new (λ key mark. IsTrue (has_key own key mark)) → KeysAre old (HasKeyFrom d octet parts (i + 1)) → KeysAre new (HasKeyFrom d octet parts i)
+    pub keys_more : (old own new : List ℕ) → ¬ IsNull d p → KeysAre own (InKeys d 12 p octet)
+        → Adds old new (λ key mark. IsTrue (has_key own key mark)) → KeysAre old (HasKeyFrom d octet parts (i + 1))
+        → KeysAre new (HasKeyFrom d octet parts i)
     keys_more old own new real are_own adds are word mark is = (
       (λ h. elim ((adds word mark is).0 h) [
         | inl before ↦ from_next word mark ((are word mark is).0 before)
@@ -391,7 +420,8 @@ module _ (d : DescV) (octet : ℕ) (parts : List ℕ) where
         let one : o.p ≡ p = cc in
         o.part.real (subst (λ (k : ℕ). IsNull d k) (sym one) null)
 
-    module _ (real : ¬ IsNull d p) (own : List ℕ) (are_own : KeysAre own (InKeys d 12 p octet)) (marks : List ℕ) (are : KeysAre marks (HasKeyFrom d octet parts (i + 1))) where
+    module _ (real : ¬ IsNull d p) (own : List ℕ) (are_own : KeysAre own (InKeys d 12 p octet)) (marks : List ℕ)
+        (are : KeysAre marks (HasKeyFrom d octet parts (i + 1))) where
       overlaps_met : Overlaps d octet parts i → MeetUnder marks own []
       overlaps_met o =
           let there = o.part.is_part in

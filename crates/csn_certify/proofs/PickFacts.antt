@@ -1,6 +1,8 @@
 -- What look-ahead answers is right: bits that lie ahead of a choice are those of the alternative that it takes, and
 -- where it refuses there are none; and a free repetition goes on where it says so.
-use Rattle.std.proofs.Common.{◌≡◌, ◌≢◌, ℕ, zero, suc, ◌%◌, ◌<◌, ◌≤◌, ◌⊎◌, inl, inr, Bool, true, false, List, [], ◌∷◌, ◌++◌, length, refl, sym, ◌∙◌, ap, subst, arith, append_assoc, append-nil, length-append, Option, Some, None, slice_get}
+use Rattle.std.proofs.Common.{◌≡◌, ◌≢◌, ℕ, zero, suc, ◌%◌, ◌<◌, ◌≤◌, ◌⊎◌, inl, inr, Bool, true, false, List, [], ◌∷◌}
+use Rattle.std.proofs.Common.{◌++◌, length, refl, sym, ◌∙◌, ap, subst, arith, append_assoc, append-nil, length-append}
+use Rattle.std.proofs.Common.{Option, Some, None, slice_get}
 use Rattle.csn_desc.specs.declared.node.Node.{Node}
 use Rattle.csn_desc.specs.declared.node.Node.TheVariants.{Null, Choice, Many}
 use Rattle.csn_desc.specs.TreeV.{TreeV, Trees}
@@ -89,14 +91,18 @@ module _ (d : DescV) where
             | inr differs ↦ inr (λ null. let same : n ≡ Null = cc in differs same)
           ]
 
-module _ (d : DescV) (most : ℕ) (here : Here d) (certified : Certified d most) (k o : ℕ) (parts : List ℕ) (at : slice_get d.nodes k ≡ Some (Choice parts)) where
+module _ (d : DescV) (most : ℕ) (here : Here d) (certified : Certified d most) (k o : ℕ) (parts : List ℕ)
+    (at : slice_get d.nodes k ≡ Some (Choice parts)) where
   -- keys of two alternatives are apart
-  pub apart : {m j p q : ℕ} {w z : List ℕ} {mark_w mark_z : Bool} → Reached d k (o % 8) → m ≢ j → slice_get parts m ≡ Some q → slice_get parts j ≡ Some p → (IsNull d q → ⊥) → (IsNull d p → ⊥) → InKeys d most q (o % 8) w mark_w → InKeys d most p (o % 8) z mark_z → IsBegunBy w z ⊎ IsBegunBy z w → ⊥
+  pub apart : {m j p q : ℕ} {w z : List ℕ} {mark_w mark_z : Bool} → Reached d k (o % 8)
+      → m ≢ j → slice_get parts m ≡ Some q → slice_get parts j ≡ Some p → (IsNull d q → ⊥) → (IsNull d p → ⊥)
+      → InKeys d most q (o % 8) w mark_w → InKeys d most p (o % 8) z mark_z → IsBegunBy w z ⊎ IsBegunBy z w → ⊥
   apart {m} {j} {w = w} {z = z} {mark_w = mark_w} {mark_z = mark_z} reached differs at_m at_j real_m real_j key_w key_z either =
       elim (order m j) [
         | equal_numbers same ↦ differs same
         | first_less less ↦ certified (Overlap k (o % 8) m j w z) (overlap mark_w mark_z at reached less at_m at_j real_m real_j key_w key_z either)
-        | second_less less ↦ certified (Overlap k (o % 8) j m z w) (overlap mark_z mark_w at reached less at_j at_m real_j real_m key_z key_w (either_way either))
+        | second_less less ↦ certified (Overlap k (o % 8) j m z w)
+            (overlap mark_z mark_w at reached less at_j at_m real_j real_m key_z key_w (either_way either))
       ]
 
   -- two alternatives do not both take no bits
@@ -115,13 +121,16 @@ module _ (d : DescV) (most : ℕ) (here : Here d) (certified : Certified d most)
       certified (NotFirm k j) (choice_not_firm at at_j real (inr (o % 8, octet-lt o, mark, subst P nothing key)))
 
   -- beside an alternative that takes no bits, a key of another one does not begin with a bit that stands behind
-  pub no_clash : {i j p q : ℕ} (a : ℕ) → Reached d k (o % 8) → j ≢ i → slice_get parts i ≡ Some p → slice_get parts j ≡ Some q → IsNull d p → InStart d q (o % 8) a → InFollow d k (o % 8) (Some a) → ⊥
+  pub no_clash : {i j p q : ℕ} (a : ℕ) → Reached d k (o % 8) → j ≢ i → slice_get parts i ≡ Some p
+      → slice_get parts j ≡ Some q → IsNull d p → InStart d q (o % 8) a → InFollow d k (o % 8) (Some a) → ⊥
   no_clash a reached differs at_i at_j null start follow = certified (EmptyClash k (o % 8) a) (empty_clash at reached at_i null at_j differs start follow)
 
   -- ---- a key is held
 
   -- the bits ahead, which begin with a key of the alternative j, are not those of an alternative that takes none
-  not_null : {m j q : ℕ} {held b x : List ℕ} (more : List ℕ) → Reached d k (o % 8) → m ≢ j → slice_get parts m ≡ Some q → IsNull d q → (h : BeginsWithKey d most parts (o % 8) held j) → b ≡ [] → b ++ x ≡ held ++ more → Stands d k o b x → ⊥
+  not_null : {m j q : ℕ} {held b x : List ℕ} (more : List ℕ) → Reached d k (o % 8)
+      → m ≢ j → slice_get parts m ≡ Some q → IsNull d q → (h : BeginsWithKey d most parts (o % 8) held j)
+      → b ≡ [] → b ++ x ≡ held ++ more → Stands d k o b x → ⊥
   not_null {m} {j} {b = b} {x = x} more reached differs at_m null h nothing e s = by_word h.word refl
     where
       by_word : (w : List ℕ) → h.word ≡ w → ⊥
@@ -133,7 +142,9 @@ module _ (d : DescV) (most : ℕ) (here : Here d) (certified : Certified d most)
           no_clash a reached (λ same. differs (sym same)) at_m h.is_part null starts_so (stands_here (Follow d) a (r ++ (h.begins.0 ++ more)) nothing ahead s)
 
   -- bits that have a tree at an alternative, where a key of the alternative j is held: it is that one
-  pub key_decides : {q j : ℕ} {v : Values} {held b : List ℕ} {t : TreeV} (m : ℕ) (x more : List ℕ) → Reached d k (o % 8) → BeginsWithKey d most parts (o % 8) held j → slice_get parts m ≡ Some q → NMeans d q o v b t → b ++ x ≡ held ++ more → Stands d k o b x → m ≡ j
+  pub key_decides : {q j : ℕ} {v : Values} {held b : List ℕ} {t : TreeV} (m : ℕ) (x more : List ℕ)
+      → Reached d k (o % 8) → BeginsWithKey d most parts (o % 8) held j → slice_get parts m ≡ Some q
+      → NMeans d q o v b t → b ++ x ≡ held ++ more → Stands d k o b x → m ≡ j
   key_decides {q = q} {j = j} {b = b} m x more reached h at_m meaning e s =
       same_number m j (λ differs.
       elim (part_null d q) [
@@ -145,7 +156,9 @@ module _ (d : DescV) (most : ℕ) (here : Here d) (certified : Certified d most)
       ])
 
   -- and so of bits that an alternative follows
-  pub key_decides_followed : {q j : ℕ} {v : Values} {held : List ℕ} (m : ℕ) (more : List ℕ) → Reached d k (o % 8) → BeginsWithKey d most parts (o % 8) held j → slice_get parts m ≡ Some q → NFollow d q o v (held ++ more) → m ≡ j
+  pub key_decides_followed : {q j : ℕ} {v : Values} {held : List ℕ} (m : ℕ) (more : List ℕ) → Reached d k (o % 8)
+      → BeginsWithKey d most parts (o % 8) held j → slice_get parts m ≡ Some q → NFollow d q o v (held ++ more)
+      → m ≡ j
   key_decides_followed {q = q} {j = j} {held = held} m more reached h at_m followed =
       same_number m j (λ differs.
       elim (part_null d q) [
@@ -167,14 +180,18 @@ module _ (d : DescV) (most : ℕ) (here : Here d) (certified : Certified d most)
   -- ---- the alternative that takes no bits
 
   -- what may follow a choice stands next: the first bit is not one that another alternative begins with
-  begins_behind : {i j p q : ℕ} {held : List ℕ} {ended : Bool} (a : ℕ) (r more : List ℕ) → Reached d k (o % 8) → j ≢ i → slice_get parts i ≡ Some p → slice_get parts j ≡ Some q → IsNull d p → InStart d q (o % 8) a → (ended ≡ true → more ≡ []) → StandsBehind d most k (o % 8) held ended → a ∷ r ≡ held ++ more → ⊥
+  begins_behind : {i j p q : ℕ} {held : List ℕ} {ended : Bool} (a : ℕ) (r more : List ℕ) → Reached d k (o % 8)
+      → j ≢ i → slice_get parts i ≡ Some p → slice_get parts j ≡ Some q → IsNull d p → InStart d q (o % 8) a
+      → (ended ≡ true → more ≡ []) → StandsBehind d most k (o % 8) held ended → a ∷ r ≡ held ++ more → ⊥
   begins_behind a r more reached differs at_i at_j null start over (behind_bit {bit = bit} follow) e =
       let same : bit ≡ a = cc in
       let P : ℕ → Type 0 = λ x. InFollow d k (o % 8) (Some x) in
       no_clash a reached differs at_i at_j null start (subst P same follow)
   begins_behind a r more reached differs at_i at_j null start over (behind_end ended) e = let none = over ended in absurd (cc)
 
-  pub none_decides : {q i : ℕ} {v : Values} {held b : List ℕ} {ended : Bool} {t : TreeV} (m : ℕ) (x more : List ℕ) → Reached d k (o % 8) → FitWidths d v → TakesNone d most k parts (o % 8) held ended i → (ended ≡ true → more ≡ []) → slice_get parts m ≡ Some q → NMeans d q o v b t → b ++ x ≡ held ++ more → m ≡ i
+  pub none_decides : {q i : ℕ} {v : Values} {held b : List ℕ} {ended : Bool} {t : TreeV} (m : ℕ) (x more : List ℕ)
+      → Reached d k (o % 8) → FitWidths d v → TakesNone d most k parts (o % 8) held ended i
+      → (ended ≡ true → more ≡ []) → slice_get parts m ≡ Some q → NMeans d q o v b t → b ++ x ≡ held ++ more → m ≡ i
   none_decides {q} {i} {v = v} {held = held} {b = b} {ended = ended} {t = t} m x more reached widths h over at_m meaning e =
       same_number m i (λ differs.
       elim (part_null d q) [
@@ -185,15 +202,20 @@ module _ (d : DescV) (most : ℕ) (here : Here d) (certified : Certified d most)
       by_bits : m ≢ i → (IsNull d q → ⊥) → (l : List ℕ) → b ≡ l → ⊥
       by_bits differs real [] is = certified (NotFirm k m) (choice_not_firm at at_m real (inl (nullable d here meaning is)))
       by_bits differs real (a ∷ l) is =
-          begins_behind a (l ++ x) more reached differs h.is_part at_m h.is_null (starts d here a l is widths meaning) over h.behind (ap (λ l. l ++ x) (sym is) ∙ e)
+          begins_behind a (l ++ x) more reached differs h.is_part at_m h.is_null (starts d here a l is widths meaning)
+          over h.behind (ap (λ l. l ++ x) (sym is) ∙ e)
 
-  follows_behind : {i m p q : ℕ} {v : Values} {held : List ℕ} {ended : Bool} (more : List ℕ) → Reached d k (o % 8) → FitWidths d v → m ≢ i → slice_get parts i ≡ Some p → slice_get parts m ≡ Some q → IsNull d p → 0 < length held → StandsBehind d most k (o % 8) held ended → NFollow d q o v (held ++ more) → ⊥
+  follows_behind : {i m p q : ℕ} {v : Values} {held : List ℕ} {ended : Bool} (more : List ℕ) → Reached d k (o % 8)
+      → FitWidths d v → m ≢ i → slice_get parts i ≡ Some p → slice_get parts m ≡ Some q → IsNull d p → 0 < length held
+      → StandsBehind d most k (o % 8) held ended → NFollow d q o v (held ++ more) → ⊥
   follows_behind more reached widths differs at_i at_m null some (behind_bit {bit = bit} {rest = rest} follow) followed =
       no_clash bit reached differs at_i at_m null (follows d here bit (rest ++ more) refl widths followed) follow
   follows_behind more reached widths differs at_i at_m null some (behind_end is) followed = absurd (omega arith)
 
   -- of bits that an alternative follows, where some are held
-  pub none_decides_followed : {q i : ℕ} {v : Values} {held : List ℕ} {ended : Bool} (m : ℕ) (more : List ℕ) → Reached d k (o % 8) → FitWidths d v → TakesNone d most k parts (o % 8) held ended i → 0 < length held → slice_get parts m ≡ Some q → NFollow d q o v (held ++ more) → m ≡ i
+  pub none_decides_followed : {q i : ℕ} {v : Values} {held : List ℕ} {ended : Bool} (m : ℕ) (more : List ℕ)
+      → Reached d k (o % 8) → FitWidths d v → TakesNone d most k parts (o % 8) held ended i → 0 < length held
+      → slice_get parts m ≡ Some q → NFollow d q o v (held ++ more) → m ≡ i
   none_decides_followed {q} {i} m more reached widths h some at_m followed =
       same_number m i (λ differs.
       elim (part_null d q) [
@@ -219,7 +241,9 @@ module _ (d : DescV) (most : ℕ) (here : Here d) (certified : Certified d most)
       ]
 
   -- the held bits begin with a key of an alternative that takes bits; and so where they are all of it
-  with_key : {q : ℕ} {held word : List ℕ} {mark : Bool} (m : ℕ) (rest : List ℕ) → slice_get parts m ≡ Some q → (IsNull d q → ⊥) → InKeys d most q (o % 8) word mark → held ≡ word ++ rest → BeginsWithKey d most parts (o % 8) held m
+  with_key : {q : ℕ} {held word : List ℕ} {mark : Bool} (m : ℕ) (rest : List ℕ)
+      → slice_get parts m ≡ Some q → (IsNull d q → ⊥) → InKeys d most q (o % 8) word mark → held ≡ word ++ rest
+      → BeginsWithKey d most parts (o % 8) held m
   with_key {q} {word = word} {mark = mark} m rest at_m real key is =
       record { own = record { part = q; word = word; mark = mark; is_part = at_m; key = key }; takes_bits = real; begins = (rest, is) }
 
@@ -227,7 +251,9 @@ module _ (d : DescV) (most : ℕ) (here : Here d) (certified : Certified d most)
   all_held held word is = sym (append-nil held) ∙ sym is ∙ sym (append-nil word)
 
   -- a key that the held bits begin, where they are all of it or not
-  key_left : {q : ℕ} {held word : List ℕ} {mark : Bool} (m : ℕ) (r : List ℕ) → slice_get parts m ≡ Some q → (IsNull d q → ⊥) → InKeys d most q (o % 8) word mark → word ≡ held ++ r → ((j : ℕ) → ¬ BeginsWithKey d most parts (o % 8) held j) → ¬ BeginsKey d most parts (o % 8) held → ⊥
+  key_left : {q : ℕ} {held word : List ℕ} {mark : Bool} (m : ℕ) (r : List ℕ)
+      → slice_get parts m ≡ Some q → (IsNull d q → ⊥) → InKeys d most q (o % 8) word mark → word ≡ held ++ r
+      → ((j : ℕ) → ¬ BeginsWithKey d most parts (o % 8) held j) → ¬ BeginsKey d most parts (o % 8) held → ⊥
   key_left {held = held} {word = word} m [] at_m real key is no_key no_more =
       no_key m (with_key m [] at_m real key (all_held held word is))
   key_left {q = q} {held = held} {word = word} {mark = mark} m (a ∷ r) at_m real key is no_key no_more =
@@ -240,7 +266,11 @@ module _ (d : DescV) (most : ℕ) (here : Here d) (certified : Certified d most)
       })
 
   -- bits that begin with a key, and with the held bits
-  begun_left : {q : ℕ} {held word : List ℕ} {mark : Bool} (m : ℕ) (rest more : List ℕ) (ended : Bool) → slice_get parts m ≡ Some q → (IsNull d q → ⊥) → InKeys d most q (o % 8) word mark → word ++ rest ≡ held ++ more → (ended ≡ true → more ≡ []) → ((j : ℕ) → ¬ BeginsWithKey d most parts (o % 8) held j) → (ended ≡ false → ¬ BeginsKey d most parts (o % 8) held) → ⊥
+  begun_left : {q : ℕ} {held word : List ℕ} {mark : Bool} (m : ℕ) (rest more : List ℕ) (ended : Bool)
+      → slice_get parts m ≡ Some q → (IsNull d q → ⊥) → InKeys d most q (o % 8) word mark
+      → word ++ rest ≡ held ++ more → (ended ≡ true → more ≡ [])
+      → ((j : ℕ) → ¬ BeginsWithKey d most parts (o % 8) held j)
+      → (ended ≡ false → ¬ BeginsKey d most parts (o % 8) held) → ⊥
   begun_left {held = held} {word = word} m rest more ended at_m real key e over no_key no_more =
       by_split (splits word rest held more e) ended refl
     where
@@ -251,7 +281,11 @@ module _ (d : DescV) (most : ℕ) (here : Here d) (certified : Certified d most)
       by_split (behind r p s) last is = no_key m (with_key m r at_m real key p)
 
   -- where look-ahead refuses, no bits ahead have a tree at an alternative
-  pub refused_means : {q : ℕ} {v : Values} {held b : List ℕ} {t : TreeV} (m : ℕ) (ended : Bool) (x more : List ℕ) → ChoiceFormed d parts → ((j : ℕ) → ¬ BeginsWithKey d most parts (o % 8) held j) → ((i : ℕ) → ¬ TakesNone d most k parts (o % 8) held ended i) → (ended ≡ false → ¬ BeginsKey d most parts (o % 8) held) → (ended ≡ true → more ≡ []) → slice_get parts m ≡ Some q → NMeans d q o v b t → b ++ x ≡ held ++ more → Stands d k o b x → ⊥
+  pub refused_means : {q : ℕ} {v : Values} {held b : List ℕ} {t : TreeV} (m : ℕ) (ended : Bool) (x more : List ℕ)
+      → ChoiceFormed d parts → ((j : ℕ) → ¬ BeginsWithKey d most parts (o % 8) held j)
+      → ((i : ℕ) → ¬ TakesNone d most k parts (o % 8) held ended i)
+      → (ended ≡ false → ¬ BeginsKey d most parts (o % 8) held) → (ended ≡ true → more ≡ [])
+      → slice_get parts m ≡ Some q → NMeans d q o v b t → b ++ x ≡ held ++ more → Stands d k o b x → ⊥
   refused_means {q} {held = held} {b = b} m ended x more formed_parts no_key no_none no_more over at_m meaning e s =
       elim (part_null d q) [
         | inl null ↦ of_null null held refl
@@ -279,7 +313,9 @@ module _ (d : DescV) (most : ℕ) (here : Here d) (certified : Certified d most)
           no_none m (record { part = q; is_part = at_m; is_null = null; behind = subst P (sym is) (behind_bit follow) })
 
   -- and none are followed, where the block goes on
-  pub refused_follows : {q : ℕ} {v : Values} {held : List ℕ} (m : ℕ) (more : List ℕ) → ChoiceFormed d parts → ((j : ℕ) → ¬ BeginsWithKey d most parts (o % 8) held j) → ¬ BeginsKey d most parts (o % 8) held → slice_get parts m ≡ Some q → NFollow d q o v (held ++ more) → ⊥
+  pub refused_follows : {q : ℕ} {v : Values} {held : List ℕ} (m : ℕ) (more : List ℕ)
+      → ChoiceFormed d parts → ((j : ℕ) → ¬ BeginsWithKey d most parts (o % 8) held j)
+      → ¬ BeginsKey d most parts (o % 8) held → slice_get parts m ≡ Some q → NFollow d q o v (held ++ more) → ⊥
   refused_follows {q} {held = held} m more formed_parts no_key no_more at_m followed =
       elim (part_null d q) [
         | inl null ↦
@@ -299,13 +335,16 @@ module _ (d : DescV) (most : ℕ) (here : Here d) (certified : Certified d most)
   -- ---- free repetitions
 
   -- where the next bit begins the part, a repetition does not end
-  pub goes_on : {k i o : ℕ} {b x : List ℕ} (a : ℕ) (r : List ℕ) → slice_get d.nodes k ≡ Some (Many i) → Reached d i (o % 8) → InStart d i (o % 8) a → b ++ x ≡ a ∷ r → Stands d k o b x → 0 < length b
+  pub goes_on : {k i o : ℕ} {b x : List ℕ} (a : ℕ) (r : List ℕ) → slice_get d.nodes k ≡ Some (Many i)
+      → Reached d i (o % 8) → InStart d i (o % 8) a → b ++ x ≡ a ∷ r → Stands d k o b x → 0 < length b
   goes_on {k} {o = o} {b = []} a r at reached start e s =
       absurd (certified (LoopClash k (o % 8) a) (loop_clash at reached start (stands_here (Follow d) a r refl e s)))
   goes_on {b = z ∷ b} a r at reached start e s = omega arith
 
 module _ (d : DescV) (here : Here d) where
   -- where it does not, a repetition has no bits
-  pub stops : {i o : ℕ} {v : Values} {b : List ℕ} {ts : Trees} (k : ℕ) (x : List ℕ) (a : ℕ) (r : List ℕ) → slice_get d.nodes k ≡ Some (Many i) → FitWidths d v → ¬ InStart d i (o % 8) a → ManyMean d i o v b ts → b ++ x ≡ a ∷ r → b ≡ []
+  pub stops : {i o : ℕ} {v : Values} {b : List ℕ} {ts : Trees} (k : ℕ) (x : List ℕ) (a : ℕ) (r : List ℕ)
+      → slice_get d.nodes k ≡ Some (Many i) → FitWidths d v → ¬ InStart d i (o % 8) a → ManyMean d i o v b ts
+      → b ++ x ≡ a ∷ r → b ≡ []
   stops {b = []} k x a r at widths never h e = refl
   stops {b = z ∷ b} k x a r at widths never h e = let same : z ∷ b ≡ a ∷ b = cc in absurd (never (many_start d here k a b at same widths h))

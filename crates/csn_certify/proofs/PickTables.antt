@@ -1,5 +1,6 @@
 -- The places of words in the entries of a choice.
-use Rattle.std.proofs.Common.{◌≡◌, ℕ, suc, ◌+◌, ◌-◌, ◌*◌, ◌/◌, ◌^◌, ◌<◌, ◌≤◌, List, length, take, drop, sym, ap, ◌∙◌, arith, take-append-drop, get_or-set_other}
+use Rattle.std.proofs.Common.{◌≡◌, ℕ, suc, ◌+◌, ◌-◌, ◌*◌, ◌/◌, ◌^◌, ◌<◌, ◌≤◌, List, length, take, drop, sym, ap, ◌∙◌}
+use Rattle.std.proofs.Common.{arith, take-append-drop, get_or-set_other}
 use Rattle.std.specs.Prelude.{slice_set}
 use Rattle.std.proofs.lemmas.Grind.{get_or-set_at}
 use Rattle.std.proofs.lemmas.List.{length-drop, length-take}
@@ -30,12 +31,15 @@ place_cut width word is =
     let front = take width word in
     let back = drop width word in
     let size : length back ≡ length word - width = length-drop width word in
-    let whole : place_of word ≡ place_of front * 2 ^ length back + number_of back = ap place_of (sym (take-append-drop width word)) ∙ place_of-append front back in
+    let whole : place_of word ≡ place_of front * 2 ^ length back + number_of back =
+    ap place_of (sym (take-append-drop width word)) ∙ place_of-append front back in
     let low : number_of back < 2 ^ length back = number_of-lt back (bits_back front back (IsBits-along (take-append-drop width word) is.bits)) in
     ap (λ n. place_of word / 2 ^ n) (sym size) ∙ ap (λ n. n / 2 ^ length back) whole ∙ div-mul-add (place_of front) (2 ^ length back) (number_of back) low
 
 -- an entry that is put at the place of a word is that of this word alone
-pub put_fills : (width : ℕ) (word : List ℕ) (entry : Entry) (old : List Entry) (place : ℕ) → HasEntries width old → IsWord word → length word ≤ width → place ≡ place_of word → FillsAt word width entry old (slice_set old place entry)
+pub put_fills : (width : ℕ) (word : List ℕ) (entry : Entry) (old : List Entry) (place : ℕ)
+    → HasEntries width old → IsWord word → length word ≤ width → place ≡ place_of word → FillsAt word width entry old
+    (slice_set old place entry)
 put_fills width word entry old place has is short here =
     let inside = place_within width word is short in
     let count = has.count in
@@ -46,12 +50,14 @@ put_fills width word entry old place has is short here =
     }
 
 -- the place of a word that is cut is that of an entry
-pub cut_place : (width : ℕ) (word : List ℕ) (place over : ℕ) → IsWord word → place ≡ place_of word → over ≡ length word - width → place / 2 ^ over ≡ place_of (take width word)
+pub cut_place : (width : ℕ) (word : List ℕ) (place over : ℕ) → IsWord word → place ≡ place_of word
+    → over ≡ length word - width → place / 2 ^ over ≡ place_of (take width word)
 cut_place width word place over is here many =
     ap (λ n. n / 2 ^ over) here ∙ ap (λ n. place_of word / 2 ^ n) many ∙ place_cut width word is
 
 -- and within the places of all words of the width
-pub cut_within : (width : ℕ) (word : List ℕ) (place over : ℕ) → IsWord word → place ≡ place_of word → over ≡ length word - width → place / 2 ^ over < 2 ^ (width + 1)
+pub cut_within : (width : ℕ) (word : List ℕ) (place over : ℕ) → IsWord word → place ≡ place_of word
+    → over ≡ length word - width → place / 2 ^ over < 2 ^ (width + 1)
 cut_within width word place over is here many =
     let same = cut_place width word place over is here many in
     let size = length-take width word in

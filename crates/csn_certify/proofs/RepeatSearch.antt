@@ -83,7 +83,8 @@ module _ (d : DescV) (node part : ℕ) (at : slice_get d.nodes node ≡ Some (Ma
           ]
 
   -- at an octet position
-  clash_at : (octet : ℕ) (c : Conflict) → IsUnder (node ∷ 3 ∷ octet ∷ []) c → ManyCase d node part c → (bit : ℕ) × (c ≡ LoopClash node octet bit) × Reached d part octet × IsClashing d part node octet bit
+  clash_at : (octet : ℕ) (c : Conflict) → IsUnder (node ∷ 3 ∷ octet ∷ []) c → ManyCase d node part c → (bit : ℕ)
+      × (c ≡ LoopClash node octet bit) × Reached d part octet × IsClashing d part node octet bit
   clash_at octet c under (case_firm is bad) =
       let theirs : rank_of c ≡ node ∷ 2 ∷ 0 ∷ [] = ap rank_of is in
       let rank = under.1 in
@@ -94,7 +95,8 @@ module _ (d : DescV) (node part : ℕ) (at : slice_get d.nodes node ≡ Some (Ma
       let same : o ≡ octet = cc in
       (b, is ∙ ap (λ k. LoopClash node k b) same, subst (λ (q : ℕ). Reached d part q) same r, subst (λ (q : ℕ). IsClashing d part node q b) same s)
 
-  of_clash : (octet : ℕ) (c : Conflict) → IsUnder (node ∷ 3 ∷ octet ∷ []) c → IsConflict d 12 c → (bit : ℕ) × (c ≡ LoopClash node octet bit) × Reached d part octet × IsClashing d part node octet bit
+  of_clash : (octet : ℕ) (c : Conflict) → IsUnder (node ∷ 3 ∷ octet ∷ []) c → IsConflict d 12 c → (bit : ℕ)
+      × (c ≡ LoopClash node octet bit) × Reached d part octet × IsClashing d part node octet bit
   of_clash octet c under holds = clash_at octet c under (of_many (3 ∷ octet ∷ []) c under holds)
 
   pub loop_not_reached : (octet : ℕ) → ¬ Reached d part octet → IsFirstUnder d (node ∷ 3 ∷ octet ∷ []) None
@@ -103,7 +105,8 @@ module _ (d : DescV) (node part : ℕ) (at : slice_get d.nodes node ≡ Some (Ma
   pub loop_none : (octet : ℕ) → IsLeastFrom 0 (IsClashing d part node octet) None → IsFirstUnder d (node ∷ 3 ∷ octet ∷ []) None
   loop_none octet none c under holds = let h = of_clash octet c under holds in none h.0 (omega arith) h.3
 
-  pub loop_some : (octet bit : ℕ) → Reached d part octet → IsLeastFrom 0 (IsClashing d part node octet) (Some bit) → IsFirstUnder d (node ∷ 3 ∷ octet ∷ []) (Some (LoopClash node octet bit))
+  pub loop_some : (octet bit : ℕ) → Reached d part octet → IsLeastFrom 0 (IsClashing d part node octet) (Some bit)
+      → IsFirstUnder d (node ∷ 3 ∷ octet ∷ []) (Some (LoopClash node octet bit))
   loop_some octet bit reached least = (
     (5 ∷ bit ∷ [], refl),
     loop_clash at reached least.1.0 least.1.1,
@@ -160,7 +163,8 @@ module _ (d : DescV) (node : ℕ) (last : IsLastNode d node) where
       let same = same_octet octet n.octet c under n.is in
       good (subst (λ (q : ℕ). MayEndAt d node q) same n.ends) (subst (λ (q : ℕ). IsFollowed d node q) same n.followed)
 
-  pub last_found : (octet : ℕ) → MayEndAt d node octet → IsFollowed d node octet → NoneBelow d (node ∷ 3 ∷ []) octet → IsFirstUnder d (node ∷ []) (Some (NotLast node octet))
+  pub last_found : (octet : ℕ) → MayEndAt d node octet → IsFollowed d node octet → NoneBelow d (node ∷ 3 ∷ []) octet
+      → IsFirstUnder d (node ∷ []) (Some (NotLast node octet))
   last_found octet ends followed below =
       last_octets (Some (NotLast node octet)) (found_at d (node ∷ 3 ∷ []) octet (NotLast node octet) (branch_at (node ∷ 3 ∷ []) refl) below here)
     where
@@ -171,7 +175,8 @@ module _ (d : DescV) (node : ℕ) (last : IsLastNode d node) where
         (λ other under holds.
             let n = of_last (3 ∷ octet ∷ []) other under holds in
             let same = same_octet octet n.octet other under n.is in
-            subst (λ (e : Conflict). NotAfter (rank_of (NotLast node octet)) (rank_of e)) (sym (n.is ∙ ap (λ k. NotLast node k) same)) (first_of_one (rank_of (NotLast node octet)))),
+            subst (λ (e : Conflict). NotAfter (rank_of (NotLast node octet)) (rank_of e))
+            (sym (n.is ∙ ap (λ k. NotLast node k) same)) (first_of_one (rank_of (NotLast node octet)))),
       )
 
   pub lasts_end : (count : ℕ) → 8 ≤ count → NoneBelow d (node ∷ 3 ∷ []) count → IsFirstUnder d (node ∷ []) None

@@ -1,5 +1,7 @@
 -- What the tables tell a search: of nodes that are firm, and of bits that stand next.
-use Rattle.std.proofs.Common.{◌≡◌, ℕ, zero, suc, ◌+◌, ◌<◌, ◌≤◌, ◌⊎◌, ◌↔◌, inl, inr, Bool, true, false, ◌&&◌, ◌||◌, not, List, [], ◌∷◌, length, refl, sym, ◌∙◌, ap, subst, arith, lit<, lit≤, Option, Some, None, slice_get}
+use Rattle.std.proofs.Common.{◌≡◌, ℕ, zero, suc, ◌+◌, ◌<◌, ◌≤◌, ◌⊎◌, ◌↔◌, inl, inr, Bool, true, false, ◌&&◌, ◌||◌}
+use Rattle.std.proofs.Common.{not, List, [], ◌∷◌, length, refl, sym, ◌∙◌, ap, subst, arith, lit<, lit≤, Option, Some}
+use Rattle.std.proofs.Common.{None, slice_get}
 use Rattle.std.specs.Prelude.{IsTrue, IsSomeAnd}
 use Rattle.std.specs.Ordering.{nat_cmp}
 use Rattle.std.specs.FinSet as set
@@ -26,10 +28,14 @@ use Rattle.csn_look.specs.Told.{OctetsAre, SignsAre, FollowHas}
 use Rattle.csn_look.specs.Sums.{Has}
 use Rattle.csn_look.specs.FollowV.{IsFollow}
 use Rattle.csn_look.specs.NodeSets.{SetsAre, IsLookOf}
-use Rattle.csn_look.specs.Starts.{InStart, NodeStarts, PartsStart, InFirst, starts_at, starts_lits, starts_spare, starts_pad, starts_field, starts_rest, starts_seq, starts_trunc, starts_choice, starts_times, starts_many, starts_window, starts_named, starts_here, starts_later}
+use Rattle.csn_look.specs.Starts.{InStart, NodeStarts, PartsStart, InFirst, starts_at, starts_lits, starts_spare}
+use Rattle.csn_look.specs.Starts.{starts_pad, starts_field, starts_rest, starts_seq, starts_trunc, starts_choice}
+use Rattle.csn_look.specs.Starts.{starts_times, starts_many, starts_window, starts_named, starts_here, starts_later}
 use Rattle.csn_look.specs.Keys.{InKeys, IsNotFirm, IsFirm}
 use Rattle.csn_look.specs.Ends.{InEnds}
-use Rattle.csn_look.specs.Reached.{Reached, InFollow, PartFollow, follow_root, follow_part, follow_later, follow_seq, follow_kept, follow_trunc, follow_times_again, follow_times, follow_many_again, follow_many, follow_choice, follow_named, follow_window}
+use Rattle.csn_look.specs.Reached.{Reached, InFollow, PartFollow, follow_root, follow_part, follow_later, follow_seq}
+use Rattle.csn_look.specs.Reached.{follow_kept, follow_trunc, follow_times_again, follow_times, follow_many_again}
+use Rattle.csn_look.specs.Reached.{follow_many, follow_choice, follow_named, follow_window}
 use Rattle.csn_look.proofs.Meaning.EmptyKeys.{empty_key}
 use Rattle.csn_look.proofs.Basics.Octets.{has_union, has_none}
 use Rattle.csn_look.proofs.Handing.ReachedParts.{reached_small, parts_below}
@@ -41,7 +47,8 @@ use Rattle.csn_certify.specs.Conflicts.{IsNull}
 use Rattle.std.proofs.lemmas.Option.{slice_get_within}
 
 -- a part is a node
-pub part_inside : (d : DescV) (node : ℕ) (parts : List ℕ) (j p : ℕ) → IsDescription d → slice_get d.nodes node ≡ Some (Choice parts) → slice_get parts j ≡ Some p → p < length d.nodes
+pub part_inside : (d : DescV) (node : ℕ) (parts : List ℕ) (j p : ℕ)
+    → IsDescription d → slice_get d.nodes node ≡ Some (Choice parts) → slice_get parts j ≡ Some p → p < length d.nodes
 part_inside d node parts j p is at at_j = parts_below d node (Choice parts) (length d.nodes) is at (omega arith) j p at_j
 
 pub times_inside : (d : DescV) (node part : ℕ) (count : Count) → IsDescription d → slice_get d.nodes node ≡ Some (Times count part) → part < length d.nodes
@@ -128,7 +135,8 @@ module _ (d : DescV) where
 
 -- ---- the signs that stand next
 
-module _ (d : DescV) (node octet : ℕ) (follow : List SignsV) (next : SignsV) (small : octet ≤ 7) (are : IsFollow follow (InFollow d node)) (at : slice_get follow octet ≡ Some next) where
+module _ (d : DescV) (node octet : ℕ) (follow : List SignsV) (next : SignsV) (small : octet ≤ 7)
+    (are : IsFollow follow (InFollow d node)) (at : slice_get follow octet ≡ Some next) where
   pub sign_follows : (sign : Sign) → IsTrue (has_sign next sign) ↔ InFollow d node octet (bit_of_sign sign)
   sign_follows sign = both (follow_has follow octet next sign at) (are octet sign small)
 
@@ -150,7 +158,9 @@ module _ (d : DescV) (node octet : ℕ) (follow : List SignsV) (next : SignsV) (
       is_so (ap (λ x. x || b) is_zero ∙ ap (λ x. has_sign next Zero || x) is_one) followed
 
   -- a part begins with a sign that stands next
-  pub clashes : (part bit : ℕ) (sign : Sign) (a b start : Bool) → bit_of_sign sign ≡ Some bit → (IsTrue start ↔ InStart d part octet bit) → a ≡ start → b ≡ has_sign next sign → IsTrue (a && b) ↔ IsClashing d part node octet bit
+  pub clashes : (part bit : ℕ) (sign : Sign) (a b start : Bool)
+      → bit_of_sign sign ≡ Some bit → (IsTrue start ↔ InStart d part octet bit) → a ≡ start → b ≡ has_sign next sign
+      → IsTrue (a && b) ↔ IsClashing d part node octet bit
   clashes part bit sign a b start sign_is starts is_start is_next =
       together (is_so is_start starts)
       (is_so is_next (subst (λ (s : Option ℕ). IsTrue (has_sign next sign) ↔ InFollow d node octet s) sign_is (sign_follows sign)))
@@ -162,7 +172,12 @@ module _ (d : DescV) (part node octet : ℕ) where
   clash_zero clash = (lit≤ tt, clash, (λ m up less. absurd (omega (arith, less))))
 
   pub clash_one : ¬ IsClashing d part node octet 0 → IsClashing d part node octet 1 → IsLeastFrom 0 (IsClashing d part node octet) (Some 1)
-  clash_one not_zero clash = (lit≤ tt, clash, (λ m up less h. not_zero (let least : m ≡ 0 = omega (arith, less) in subst (λ (b : ℕ). IsClashing d part node octet b) least h)))
+  clash_one not_zero clash = (
+    lit≤ tt,
+    clash,
+    (λ m up less h. not_zero (let least : m ≡ 0 = omega (arith, less) in
+        subst (λ (b : ℕ). IsClashing d part node octet b) least h)),
+  )
 
   pub clash_none : ¬ IsClashing d part node octet 0 → ¬ IsClashing d part node octet 1 → IsLeastFrom 0 (IsClashing d part node octet) None
   clash_none not_zero not_one n up h = by_bit n (start_bit d h.0) h
@@ -206,7 +221,8 @@ no_follow follow octet next nothing h = by_get (slice_get follow octet) (nothing
     by_get None none shown = shown
     by_get (Some s) none shown = no_sign h.0 (subst (λ (t : SignsV). IsTrue (has_sign t h.0)) (none s refl) shown)
 
-module _ (d : DescV) (part octet : ℕ) (signs : SignsV) (follow : List SignsV) (nothing : IsNothing follow) (are : SignsAre signs (InFirst d (FollowHas follow) part octet)) where
+module _ (d : DescV) (part octet : ℕ) (signs : SignsV) (follow : List SignsV) (nothing : IsNothing follow)
+    (are : SignsAre signs (InFirst d (FollowHas follow) part octet)) where
   pub starts_zero : IsTrue signs.zero ↔ InStart d part octet 0
   starts_zero = (
     (λ shown. elim ((are Zero).0 shown) [ inl start ↦ start | inr after ↦ absurd (no_follow follow octet (Some 0) nothing after.1) ]),
@@ -229,7 +245,9 @@ module _ (d : DescV) (node : ℕ) where
   pub ends_none : (s : set.FinSet nat_cmp) → s ≡ set.empty → OctetsAre s (EndsBelow d node 0)
   ends_none s empty o small = ((λ shown. absurd (has_none s o empty shown)), (λ h. let less = h.1 in absurd (omega (arith, less))))
 
-  pub ends_more : (s more new : set.FinSet nat_cmp) (from : ℕ) → OctetsAre more (λ octet. Reached d node from × InEnds d node from octet) → new ≡ set.union s more → OctetsAre s (EndsBelow d node from) → OctetsAre new (EndsBelow d node (from + 1))
+  pub ends_more : (s more new : set.FinSet nat_cmp) (from : ℕ)
+      → OctetsAre more (λ octet. Reached d node from × InEnds d node from octet)
+      → new ≡ set.union s more → OctetsAre s (EndsBelow d node from) → OctetsAre new (EndsBelow d node (from + 1))
   ends_more s more new from are is before o small = (
     (λ shown. elim ((has_union s more o).0 (ap (λ u. set.contains u o) (sym is) ∙ shown)) [
       | inl old ↦ let h = (before o small).0 old in let less = h.1 in (h.0, omega (arith, less), h.2, h.3)
@@ -246,10 +264,12 @@ module _ (d : DescV) (node : ℕ) where
             | second_less higher ↦ absurd (omega (arith, less, higher))
           ]
 
-  pub ends_here : (s : set.FinSet nat_cmp) (from : ℕ) → Reached d node from → OctetsAre s (InEnds d node from) → OctetsAre s (λ octet. Reached d node from × InEnds d node from octet)
+  pub ends_here : (s : set.FinSet nat_cmp) (from : ℕ) → Reached d node from → OctetsAre s (InEnds d node from)
+      → OctetsAre s (λ octet. Reached d node from × InEnds d node from octet)
   ends_here s from reached are o small = ((λ shown. (reached, (are o small).0 shown)), (λ h. (are o small).1 h.1))
 
-  pub ends_nowhere : (s : set.FinSet nat_cmp) (from : ℕ) → ¬ Reached d node from → s ≡ set.empty → OctetsAre s (λ octet. Reached d node from × InEnds d node from octet)
+  pub ends_nowhere : (s : set.FinSet nat_cmp) (from : ℕ) → ¬ Reached d node from → s ≡ set.empty
+      → OctetsAre s (λ octet. Reached d node from × InEnds d node from octet)
   ends_nowhere s from apart empty o small = ((λ shown. absurd (has_none s o empty shown)), (λ h. absurd (apart h.0)))
 
   pub ends_all : (s : set.FinSet nat_cmp) (count : ℕ) → 8 ≤ count → OctetsAre s (EndsBelow d node count) → OctetsAre s (MayEndAt d node)
@@ -265,10 +285,12 @@ pub denied : (b : Bool) (P : Type 0) → (IsTrue b ↔ P) → b ≡ false → ¬
 denied b P f fails p = let shown = f.1 p in let differ : true ≡ false = sym shown ∙ fails in absurd (cc)
 
 -- an octet position is in the set or not
-pub reached_there : (d : DescV) (node octet : ℕ) (s : set.FinSet nat_cmp) (b : Bool) → OctetsAre s (Reached d node) → octet ≤ 7 → b ≡ set.contains s octet → IsTrue b ↔ Reached d node octet
+pub reached_there : (d : DescV) (node octet : ℕ) (s : set.FinSet nat_cmp) (b : Bool) → OctetsAre s (Reached d node)
+    → octet ≤ 7 → b ≡ set.contains s octet → IsTrue b ↔ Reached d node octet
 reached_there d node octet s b are small is = ((λ shown. (are octet small).0 (sym is ∙ shown)), (λ r. is ∙ (are octet small).1 r))
 
-module _ (d : DescV) (look : List NodeSets) (p : ℕ) (a b : Bool) (is : IsLookOf d look) (inside : p < length d.nodes) (null : IsTrue a ↔ IsNull d p) (firm : IsTrue b ↔ IsFirm d 12 p) where
+module _ (d : DescV) (look : List NodeSets) (p : ℕ) (a b : Bool) (is : IsLookOf d look) (inside : p < length d.nodes)
+    (null : IsTrue a ↔ IsNull d p) (firm : IsTrue b ↔ IsFirm d 12 p) where
   pub soft_part : (not a && not b) ≡ true → (¬ IsNull d p) × IsNotFirm d 12 p
   soft_part shown = by_tests a b refl refl shown
     where
@@ -323,7 +345,9 @@ least_is_none from P None other h = h
 least_is_none from P (Some n) other h = absurd (other n refl)
 
 -- where a node ends and what may follow it
-module _ (d : DescV) (node octet : ℕ) (ends : set.FinSet nat_cmp) (a b : Bool) (are : OctetsAre ends (MayEndAt d node)) (small : octet ≤ 7) (is : a ≡ set.contains ends octet) (follows : IsTrue b ↔ IsFollowed d node octet) where
+module _ (d : DescV) (node octet : ℕ) (ends : set.FinSet nat_cmp) (a b : Bool)
+    (are : OctetsAre ends (MayEndAt d node)) (small : octet ≤ 7) (is : a ≡ set.contains ends octet)
+    (follows : IsTrue b ↔ IsFollowed d node octet) where
   both_tests : IsTrue (a && b) ↔ (MayEndAt d node octet × IsFollowed d node octet)
   both_tests = together (is_so is (are octet small)) follows
 

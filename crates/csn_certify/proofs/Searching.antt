@@ -1,5 +1,6 @@
 -- Searching conflicts in the order of their ranks.
-use Rattle.std.proofs.Common.{◌≡◌, ℕ, ◌+◌, ◌<◌, ◌≤◌, ◌⊎◌, inl, inr, Bool, true, false, List, [], ◌∷◌, ◌++◌, length, get_or, refl, sym, ◌∙◌, ap, subst, arith, append_assoc, Option, Some, None}
+use Rattle.std.proofs.Common.{◌≡◌, ℕ, ◌+◌, ◌<◌, ◌≤◌, ◌⊎◌, inl, inr, Bool, true, false, List, [], ◌∷◌, ◌++◌, length}
+use Rattle.std.proofs.Common.{get_or, refl, sym, ◌∙◌, ap, subst, arith, append_assoc, Option, Some, None}
 use Rattle.std.specs.Prelude.{Result, Ok, Err, IfOk, ◌==◌, ◌&&◌}
 use Rattle.std.proofs.lemmas.List.{append-nil}
 use Rattle.std.proofs.lemmas.Option.{slice_get_within}
@@ -7,7 +8,8 @@ use Rattle.csn_desc.specs.Nodes.{DescV}
 use Rattle.csn_claims.proofs.Pieces.{order, equal_numbers, first_less, second_less}
 use Rattle.csn_certify.specs.declared.conflict.Conflict.{Conflict}
 use Rattle.csn_certify.specs.declared.conflict.Conflict.TheVariants.{TwoEmpty, NotFirm, Overlap, EmptyClash, LoopClash, NotLast}
-use Rattle.csn_certify.specs.Conflicts.{IsConflict, two_empty, choice_not_firm, many_not_firm, times_not_firm, overlap, empty_clash, loop_clash, not_last, rank_of, NotAfter}
+use Rattle.csn_certify.specs.Conflicts.{IsConflict, two_empty, choice_not_firm, many_not_firm, times_not_firm}
+use Rattle.csn_certify.specs.Conflicts.{overlap, empty_clash, loop_clash, not_last, rank_of, NotAfter}
 use Rattle.csn_certify.specs.Search.{IsUnder, IsFirstUnder, IsFirstOrNone, IsLeastFrom}
 
 -- ---- ranks
@@ -28,7 +30,8 @@ under_less : (front : List ℕ) (x : ℕ) (c : Conflict) → IsUnder (front ++ x
 under_less front x c h = (h.0, h.1 ∙ append_assoc front (x ∷ []) h.0)
 
 -- conflicts under a lower number come first
-lower_first : (front r s : List ℕ) (x y : ℕ) (c e : Conflict) → x < y → rank_of c ≡ front ++ x ∷ r → rank_of e ≡ front ++ y ∷ s → NotAfter (rank_of c) (rank_of e)
+lower_first : (front r s : List ℕ) (x y : ℕ) (c e : Conflict) → x < y → rank_of c ≡ front ++ x ∷ r
+    → rank_of e ≡ front ++ y ∷ s → NotAfter (rank_of c) (rank_of e)
 lower_first front r s x y c e less is_c is_e =
     let P : List ℕ → Type 0 = λ l. NotAfter l (rank_of e) in
     let Q : List ℕ → Type 0 = λ l. NotAfter (front ++ x ∷ r) l in
@@ -67,7 +70,8 @@ module _ (d : DescV) where
       ]
 
   -- the first one under the next number is the first of all
-  pub found_at : (front : List ℕ) (n : ℕ) (c : Conflict) → IsBranch front → NoneBelow front n → IsFirstUnder d (front ++ n ∷ []) (Some c) → IsFirstUnder d front (Some c)
+  pub found_at : (front : List ℕ) (n : ℕ) (c : Conflict) → IsBranch front → NoneBelow front n
+      → IsFirstUnder d (front ++ n ∷ []) (Some c) → IsFirstUnder d front (Some c)
   found_at front n c branch below h = ((n ∷ here.0, here.1), h.1, before)
     where
       here : (rest : List ℕ) × (rank_of c ≡ front ++ n ∷ rest)
@@ -78,7 +82,8 @@ module _ (d : DescV) where
           let next = next_number front under.0 other branch under.1 in
           elim (order next.number n) [
             | first_less lower ↦ absurd (below next.number lower other (under_more front next.rest next.number other next.is) holds)
-            | equal_numbers same ↦ h.2 other (subst (λ (y : ℕ). IsUnder (front ++ y ∷ []) other) same (under_more front next.rest next.number other next.is)) holds
+            | equal_numbers same ↦ h.2 other (subst (λ (y : ℕ). IsUnder (front ++ y ∷ []) other) same
+                (under_more front next.rest next.number other next.is)) holds
             | second_less higher ↦ lower_first front here.0 next.rest n next.number c other higher here.1 next.is
           ]
 
@@ -89,7 +94,8 @@ module _ (d : DescV) where
       none next.number c (under_more front next.rest next.number c next.is) holds
 
   -- and so where the next numbers have been gone through, and there is none behind
-  pub gone_through : (front : List ℕ) (count : ℕ) → IsBranch front → NoneBelow front count → ((x : ℕ) → count ≤ x → IsFirstUnder d (front ++ x ∷ []) None) → IsFirstUnder d front None
+  pub gone_through : (front : List ℕ) (count : ℕ) → IsBranch front → NoneBelow front count
+      → ((x : ℕ) → count ≤ x → IsFirstUnder d (front ++ x ∷ []) None) → IsFirstUnder d front None
   gone_through front count branch below past = none_of front branch each
     where
       each : (x : ℕ) → IsFirstUnder d (front ++ x ∷ []) None
@@ -159,7 +165,9 @@ module _ (d : DescV) where
 
 module _ (d : DescV) where
   -- all conflicts under some numbers are under more of them
-  pub widen : (front more : List ℕ) (r : Option Conflict) → ((c : Conflict) → IsUnder front c → IsConflict d 12 c → IsUnder (front ++ more) c) → IsFirstUnder d (front ++ more) r → IsFirstUnder d front r
+  pub widen : (front more : List ℕ) (r : Option Conflict)
+      → ((c : Conflict) → IsUnder front c → IsConflict d 12 c → IsUnder (front ++ more) c)
+      → IsFirstUnder d (front ++ more) r → IsFirstUnder d front r
   widen front more None all h = λ c under holds. h c (all c under holds) holds
   widen front more (Some c) all h =
       let under = h.0 in (
@@ -169,7 +177,9 @@ module _ (d : DescV) where
       )
 
   -- the last next number that there is
-  pub last_class : (front : List ℕ) (n : ℕ) (r : Option Conflict) → IsBranch front → NoneBelow d front n → ((x : ℕ) → n < x → IsFirstUnder d (front ++ x ∷ []) None) → IsFirstUnder d (front ++ n ∷ []) r → IsFirstUnder d front r
+  pub last_class : (front : List ℕ) (n : ℕ) (r : Option Conflict) → IsBranch front → NoneBelow d front n
+      → ((x : ℕ) → n < x → IsFirstUnder d (front ++ x ∷ []) None) → IsFirstUnder d (front ++ n ∷ []) r
+      → IsFirstUnder d front r
   last_class front n (Some c) branch below past h = found_at d front n c branch below h
   last_class front n None branch below past h = none_of d front branch each
     where
@@ -229,10 +239,12 @@ module _ (d : DescV) where
   pub first_stage : (node : ℕ) (c : Conflict) → IsFirstUnder d (node ∷ 1 ∷ []) (Some c) → IsFirstUnder d (node ∷ []) (Some c)
   first_stage node c h = found_at d (node ∷ []) 1 c (branch_at (node ∷ []) refl) (stage_none node) h
 
-  pub second_stage : (node : ℕ) (c : Conflict) → IsFirstUnder d (node ∷ 1 ∷ []) None → IsFirstUnder d (node ∷ 2 ∷ []) (Some c) → IsFirstUnder d (node ∷ []) (Some c)
+  pub second_stage : (node : ℕ) (c : Conflict) → IsFirstUnder d (node ∷ 1 ∷ []) None → IsFirstUnder d (node ∷ 2 ∷ [])
+      (Some c) → IsFirstUnder d (node ∷ []) (Some c)
   second_stage node c first h = found_at d (node ∷ []) 2 c (branch_at (node ∷ []) refl) (none_more d (node ∷ []) 1 (stage_none node) first) h
 
-  pub third_stage : (node : ℕ) (r : Option Conflict) → IsFirstUnder d (node ∷ 1 ∷ []) None → IsFirstUnder d (node ∷ 2 ∷ []) None → IsFirstUnder d (node ∷ 3 ∷ []) r → IsFirstUnder d (node ∷ []) r
+  pub third_stage : (node : ℕ) (r : Option Conflict) → IsFirstUnder d (node ∷ 1 ∷ []) None
+      → IsFirstUnder d (node ∷ 2 ∷ []) None → IsFirstUnder d (node ∷ 3 ∷ []) r → IsFirstUnder d (node ∷ []) r
   third_stage node r first second h =
       last_class d (node ∷ []) 3 r (branch_at (node ∷ []) refl)
       (none_more d (node ∷ []) 2 (none_more d (node ∷ []) 1 (stage_none node) first) second) (stage_past node) h

@@ -1,12 +1,18 @@
 -- What is a conflict where words are longer is one where they are shorter.
-use Rattle.std.proofs.Common.{◌≡◌, ℕ, zero, suc, ◌<◌, ◌≤◌, ◌⊎◌, inl, inr, Bool, true, false, List, [], ◌∷◌, ◌++◌, length, take, refl, sym, ap, ◌∙◌, arith, length-append}
+use Rattle.std.proofs.Common.{◌≡◌, ℕ, zero, suc, ◌<◌, ◌≤◌, ◌⊎◌, inl, inr, Bool, true, false, List, [], ◌∷◌, ◌++◌}
+use Rattle.std.proofs.Common.{length, take, refl, sym, ap, ◌∙◌, arith, length-append}
 use Rattle.std.proofs.lemmas.Bool.Decides.{leb_tells}
 use Rattle.std.proofs.lemmas.List.{take-append-le}
 use Rattle.csn_desc.specs.declared.node.Node.{Node}
 use Rattle.csn_desc.specs.Nodes.{DescV}
-use Rattle.csn_look.specs.Keys.{Cut, kept, cut, InKeys, NodeKeys, PartsKeys, TimesKeys, HasEmptyKey, IsNotFirm, keys_at, keys_lits, keys_spare, keys_field, keys_pad, keys_null, keys_rest, keys_many, keys_trunc, keys_window, keys_counted_field, keys_counted_times, keys_seq, keys_times, keys_choice, keys_named, parts_none, parts_cut, parts_whole, times_none, times_cut, times_whole}
+use Rattle.csn_look.specs.Keys.{Cut, kept, cut, InKeys, NodeKeys, PartsKeys, TimesKeys, HasEmptyKey, IsNotFirm}
+use Rattle.csn_look.specs.Keys.{keys_at, keys_lits, keys_spare, keys_field, keys_pad, keys_null, keys_rest, keys_many}
+use Rattle.csn_look.specs.Keys.{keys_trunc, keys_window, keys_counted_field, keys_counted_times, keys_seq, keys_times}
+use Rattle.csn_look.specs.Keys.{keys_choice, keys_named, parts_none, parts_cut, parts_whole, times_none, times_cut}
+use Rattle.csn_look.specs.Keys.{times_whole}
 use Rattle.csn_certify.specs.declared.conflict.Conflict.{Conflict}
-use Rattle.csn_certify.specs.Conflicts.{IsConflict, IsBegunBy, two_empty, choice_not_firm, many_not_firm, times_not_firm, overlap, empty_clash, loop_clash, not_last}
+use Rattle.csn_certify.specs.Conflicts.{IsConflict, IsBegunBy, two_empty, choice_not_firm, many_not_firm}
+use Rattle.csn_certify.specs.Conflicts.{times_not_firm, overlap, empty_clash, loop_clash, not_last}
 
 -- ---- first bits
 
@@ -70,7 +76,8 @@ cut_false : {n : ℕ} {w x : List ℕ} {whole mark : Bool} → whole ≡ false �
 cut_false falsely (kept short is same) = (same ∙ falsely, kept short is refl)
 cut_false falsely (cut long is same) = (same, cut long is refl)
 
-marked_twice : {n m : ℕ} (w : List ℕ) {x : List ℕ} {whole mark last : Bool} → n ≤ m → x ≡ take m w → Marked m w whole mark → Marked n x mark last → Marked n w whole last
+marked_twice : {n m : ℕ} (w : List ℕ) {x : List ℕ} {whole mark last : Bool}
+    → n ≤ m → x ≡ take m w → Marked m w whole mark → Marked n x mark last → Marked n w whole last
 marked_twice {n} {m} w less is (inl first) (inl second) =
     let same = ap length (is ∙ take-short m w first.0) in inl (omega (arith, same), second.1 ∙ first.1)
 marked_twice {n} {m} w less is (inl first) (inr second) =
@@ -83,7 +90,8 @@ cut_twice : {n m : ℕ} {w x z : List ℕ} {whole mark last : Bool} → n ≤ m 
 cut_twice {n} {m} {w} less first second =
     to_cut (cut_word second ∙ ap (take n) (cut_word first) ∙ take-shorter n m w less) (marked_twice w less (cut_word first) (cut_mark first) (cut_mark second))
 
-marked_behind : {n : ℕ} (w1 w2 x2 : List ℕ) {whole mark last : Bool} → x2 ≡ take n w2 → Marked n w2 whole mark → Marked n (w1 ++ w2) whole last → Marked n (w1 ++ x2) mark last
+marked_behind : {n : ℕ} (w1 w2 x2 : List ℕ) {whole mark last : Bool} → x2 ≡ take n w2 → Marked n w2 whole mark
+    → Marked n (w1 ++ w2) whole last → Marked n (w1 ++ x2) mark last
 marked_behind {n} w1 w2 x2 is (inl first) (inl second) =
     let same = ap (λ l. length (w1 ++ l)) (is ∙ take-short n w2 first.0) in
     let short = second.0 in
@@ -101,7 +109,8 @@ marked_behind {n} w1 w2 x2 is (inr first) (inr second) =
     ]
 
 -- a word that is cut behind another one, and then both together
-cut_behind : {n : ℕ} (w1 w2 x2 : List ℕ) {z : List ℕ} {whole mark last : Bool} → Cut n w2 whole x2 mark → Cut n (w1 ++ w2) whole z last → Cut n (w1 ++ x2) mark z last
+cut_behind : {n : ℕ} (w1 w2 x2 : List ℕ) {z : List ℕ} {whole mark last : Bool}
+    → Cut n w2 whole x2 mark → Cut n (w1 ++ w2) whole z last → Cut n (w1 ++ x2) mark z last
 cut_behind {n} w1 w2 x2 first second =
     to_cut (cut_word second ∙ sym (take-behind n n w1 w2 (omega arith)) ∙ ap (λ l. take n (w1 ++ l)) (sym (cut_word first)))
     (marked_behind w1 w2 x2 (cut_word first) (cut_mark first) (cut_mark second))
@@ -142,14 +151,16 @@ module _ (d : DescV) (n m : ℕ) (less : n ≤ m) where
     node_cut (keys_choice j at h) c = keys_choice j at (key_cut h c)
     node_cut (keys_named h) c = keys_named (key_cut h c)
 
-    parts_key_cut : {parts : List ℕ} {o : ℕ} {x z : List ℕ} {mark last : Bool} → PartsKeys d m parts o x mark → Cut n x mark z last → PartsKeys d n parts o z last
+    parts_key_cut : {parts : List ℕ} {o : ℕ} {x z : List ℕ} {mark last : Bool} → PartsKeys d m parts o x mark
+        → Cut n x mark z last → PartsKeys d n parts o z last
     parts_key_cut (parts_none e f) c = let same = cut_none e c in parts_none same.0 (same.1 ∙ f)
     parts_key_cut (parts_cut h f) c = let both = cut_false f c in parts_cut (key_cut h both.1) both.0
     parts_key_cut (parts_whole w1 w2 rest h hs both) c =
         let second = cutting n w2 rest in
         let all = cut_twice less both c in
         elim (leb_tells (length w1) n) [
-          | inl short ↦ parts_whole w1 second.word second.mark (key_cut h (kept short.1 refl refl)) (parts_key_cut hs second.is) (cut_behind w1 w2 second.word second.is all)
+          | inl short ↦ parts_whole w1 second.word second.mark (key_cut h (kept short.1 refl refl))
+              (parts_key_cut hs second.is) (cut_behind w1 w2 second.word second.is all)
           | inr long ↦ let front = cut_before w1 w2 long.1 all in parts_cut (key_cut h front.1) front.0
         ]
 
@@ -160,7 +171,8 @@ module _ (d : DescV) (n m : ℕ) (less : n ≤ m) where
         let second = cutting n w2 rest in
         let all = cut_twice less both c in
         elim (leb_tells (length w1) n) [
-          | inl short ↦ times_whole l is w1 second.word second.mark (key_cut h (kept short.1 refl refl)) (times_key_cut hs second.is) (cut_behind w1 w2 second.word second.is all)
+          | inl short ↦ times_whole l is w1 second.word second.mark (key_cut h (kept short.1 refl refl))
+              (times_key_cut hs second.is) (cut_behind w1 w2 second.word second.is all)
           | inr long ↦ let front = cut_before w1 w2 long.1 all in times_cut l is (key_cut h front.1) front.0
         ]
 
@@ -189,8 +201,11 @@ module _ (d : DescV) (n m : ℕ) (less : n ≤ m) where
   conflict_cut (times_not_firm at i h) = (_, times_not_firm at i h)
   conflict_cut (overlap {word_i = wi} {word_j = wj} mark_i mark_j at reached more i j real_i real_j key_i key_j h) =
       let left = cutting n wi mark_i in
-      let right = cutting n wj mark_j in
-      (_, overlap left.mark right.mark at reached more i j real_i real_j (key_cut key_i left.is) (key_cut key_j right.is) (either_cut wi wj (cut_word left.is) (cut_word right.is) h))
+      let right = cutting n wj mark_j in (
+        _,
+        overlap left.mark right.mark at reached more i j real_i real_j (key_cut key_i left.is)
+            (key_cut key_j right.is) (either_cut wi wj (cut_word left.is) (cut_word right.is) h),
+      )
   conflict_cut (empty_clash at reached i null j other start follow) = (_, empty_clash at reached i null j other start follow)
   conflict_cut (loop_clash at reached start follow) = (_, loop_clash at reached start follow)
   conflict_cut (not_last node from at last reached ends follow) = (_, not_last node from at last reached ends follow)

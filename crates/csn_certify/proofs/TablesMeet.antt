@@ -1,5 +1,6 @@
 -- Going through two tables of keys at once.
-use Rattle.std.proofs.Common.{◌≡◌, ℕ, zero, suc, ◌<◌, ◌≤◌, ◌⊎◌, ◌↔◌, inl, inr, Bool, true, false, List, [], ◌∷◌, ◌++◌, length, refl, sym, ◌∙◌, ap, subst, arith, append-nil, append_assoc, length-append}
+use Rattle.std.proofs.Common.{◌≡◌, ℕ, zero, suc, ◌<◌, ◌≤◌, ◌⊎◌, ◌↔◌, inl, inr, Bool, true, false, List, [], ◌∷◌, ◌++◌}
+use Rattle.std.proofs.Common.{length, refl, sym, ◌∙◌, ap, subst, arith, append-nil, append_assoc, length-append}
 use Rattle.std.specs.Prelude.{IsTrue}
 use Rattle.std.proofs.lemmas.List.{append_cancel_left}
 use Rattle.csn_bits.specs.Octets.{IsBits}
@@ -102,11 +103,14 @@ one_bit word a b x y v w is_v is_w (inr long) =
     cc
 
 -- where no key begins the word, keys meet behind a 0 or behind a 1
-pub next_bit : (left right word : List ℕ) → ¬ BeginsWithKey left word → ¬ BeginsWithKey right word → MeetUnder left right word → MeetUnder left right (word ++ 0 ∷ []) ⊎ MeetUnder left right (word ++ 1 ∷ [])
+pub next_bit : (left right word : List ℕ) → ¬ BeginsWithKey left word → ¬ BeginsWithKey right word
+    → MeetUnder left right word → MeetUnder left right (word ++ 0 ∷ []) ⊎ MeetUnder left right (word ++ 1 ∷ [])
 next_bit left right word none_l none_r m =
     let l = goes_on left word none_l m.v in
     let r = goes_on right word none_r m.w in
-    by_bit l.bit l.rest r.rest l.small l.is (r.is ∙ ap (λ b. word ++ b ∷ r.rest) (sym (one_bit word l.bit r.bit l.rest r.rest m.v.key m.w.key l.is r.is m.begun)))
+    by_bit l.bit l.rest r.rest l.small l.is
+    (r.is ∙ ap (λ b. word ++ b ∷ r.rest)
+    (sym (one_bit word l.bit r.bit l.rest r.rest m.v.key m.w.key l.is r.is m.begun)))
   where
     under : (bit : ℕ) (x y : List ℕ) → m.v.key ≡ word ++ bit ∷ x → m.w.key ≡ word ++ bit ∷ y → MeetUnder left right (word ++ bit ∷ [])
     under bit x y is_v is_w =
@@ -116,7 +120,8 @@ next_bit left right word none_l none_r m =
           begun = m.begun;
         }
 
-    by_bit : (bit : ℕ) (x y : List ℕ) → bit ≤ 1 → m.v.key ≡ word ++ bit ∷ x → m.w.key ≡ word ++ bit ∷ y → MeetUnder left right (word ++ 0 ∷ []) ⊎ MeetUnder left right (word ++ 1 ∷ [])
+    by_bit : (bit : ℕ) (x y : List ℕ) → bit ≤ 1 → m.v.key ≡ word ++ bit ∷ x → m.w.key ≡ word ++ bit ∷ y
+        → MeetUnder left right (word ++ 0 ∷ []) ⊎ MeetUnder left right (word ++ 1 ∷ [])
     by_bit zero x y small is_v is_w = inl (under 0 x y is_v is_w)
     by_bit (suc zero) x y small is_v is_w = inr (under 1 x y is_v is_w)
     by_bit (suc (suc bit)) x y small is_v is_w = absurd (omega (arith, small))
@@ -163,7 +168,8 @@ module _ (left right word : List ℕ) (is : IsWord word) (none_l : ¬ BeginsWith
   pub met_at_zero : (low : List ℕ) → low ≡ word ++ 0 ∷ [] → MeetUnder left right low → MeetUnder left right word
   met_at_zero low same m = under_front left right word 0 (subst (λ (x : List ℕ). MeetUnder left right x) same m)
 
-  pub met_at_one : (b : Bool) (low high : List ℕ) → low ≡ word ++ 0 ∷ [] → high ≡ word ++ 1 ∷ [] → ¬ MeetUnder left right low → (IsTrue b ↔ MeetUnder left right high) → IsTrue b ↔ MeetUnder left right word
+  pub met_at_one : (b : Bool) (low high : List ℕ) → low ≡ word ++ 0 ∷ [] → high ≡ word ++ 1 ∷ []
+      → ¬ MeetUnder left right low → (IsTrue b ↔ MeetUnder left right high) → IsTrue b ↔ MeetUnder left right word
   met_at_one b low high same_low same_high none f = (
     (λ h. under_front left right word 1 (subst (λ (x : List ℕ). MeetUnder left right x) same_high (f.0 h))),
     (λ m. elim (next_bit left right word none_l none_r m) [

@@ -22,11 +22,13 @@ use Rattle.csn_certify.proofs.Here.{Here, many_starts, nullable, follows}
 -- ---- each has a bit
 
 module _ (d : DescV) (most : ℕ) (here : Here d) (certified : Certified d most) where
-  pub free_turn : {part o : ℕ} {v : Values} {b : List ℕ} {t : TreeV} (node : ℕ) → slice_get d.nodes node ≡ Some (Many part) → NMeans d part o v b t → 0 < length b
+  pub free_turn : {part o : ℕ} {v : Values} {b : List ℕ} {t : TreeV} (node : ℕ)
+      → slice_get d.nodes node ≡ Some (Many part) → NMeans d part o v b t → 0 < length b
   free_turn {b = b} node at h =
       some_bit b (λ nothing. certified (NotFirm node 0) (many_not_firm at refl (inl (nullable d here h nothing))))
 
-  pub counted_turn : {part o : ℕ} {count : Count} {v : Values} {b : List ℕ} {t : TreeV} (node : ℕ) → slice_get d.nodes node ≡ Some (Times count part) → NMeans d part o v b t → 0 < length b
+  pub counted_turn : {part o : ℕ} {count : Count} {v : Values} {b : List ℕ} {t : TreeV} (node : ℕ)
+      → slice_get d.nodes node ≡ Some (Times count part) → NMeans d part o v b t → 0 < length b
   counted_turn {b = b} node at h =
       some_bit b (λ nothing. certified (NotFirm node 0) (times_not_firm at refl (nullable d here h nothing)))
 
@@ -41,7 +43,8 @@ module _ (strings : StringsAreFollowed) (d : DescV) where
   many_followed some (many_next b1 (x ∷ b2) cut more h others) =
       many_later b1 (x ∷ b2) cut more h (many_followed (λ none. absurd (cc)) others)
 
-  pub turns_followed : {node part o : ℕ} {v : Values} {b : List ℕ} → slice_get d.nodes node ≡ Some (Many part) → (b ≡ [] → ⊥) → NFollow d node o v b → ManyFollow d part o v b
+  pub turns_followed : {node part o : ℕ} {v : Values} {b : List ℕ} → slice_get d.nodes node ≡ Some (Many part)
+      → (b ≡ [] → ⊥) → NFollow d node o v b → ManyFollow d part o v b
   turns_followed {part = part} at some h = of_node some (follow_at d at h)
     where
       of_node : {o : ℕ} {v : Values} {b : List ℕ} → (b ≡ [] → ⊥) → NodeFollows d (Many part) o v b → ManyFollow d part o v b
@@ -49,13 +52,17 @@ module _ (strings : StringsAreFollowed) (d : DescV) where
       of_node some (follows_many h) = h
 
 module _ (d : DescV) (here : Here d) where
-  pub left_follows_none : {most node part o : ℕ} {v : Values} {held : List ℕ} {ended : Bool} (later : List ℕ) → slice_get d.nodes node ≡ Some (Many part) → FitWidths d v → (ended ≡ true → later ≡ []) → (held ++ later ≡ [] → ⊥) → Picks d most node (o % 8) held ended Leave → NFollow d node o v (held ++ later) → ⊥
+  pub left_follows_none : {most node part o : ℕ} {v : Values} {held : List ℕ} {ended : Bool} (later : List ℕ)
+      → slice_get d.nodes node ≡ Some (Many part) → FitWidths d v → (ended ≡ true → later ≡ [])
+      → (held ++ later ≡ [] → ⊥) → Picks d most node (o % 8) held ended Leave → NFollow d node o v (held ++ later) → ⊥
   left_follows_none {part = part} {o = o} later at widths over some (pick_leave {bit = bit} {rest = rest} those there never) h =
       let that : part ≡ those = cc in
       let P : ℕ → Type 0 = λ i. InStart d i (o % 8) bit in
       never (subst P that (many_starts d at (follows d here bit (rest ++ later) refl widths h)))
   left_follows_none later at widths over some (pick_ended those there ended) h = some (over ended)
 
-  pub left_part_follows_none : {most node part o : ℕ} {v : Values} {held : List ℕ} {ended : Bool} (later : List ℕ) → slice_get d.nodes node ≡ Some (Many part) → FitWidths d v → (ended ≡ true → later ≡ []) → (held ++ later ≡ [] → ⊥) → Picks d most node (o % 8) held ended Leave → NFollow d part o v (held ++ later) → ⊥
+  pub left_part_follows_none : {most node part o : ℕ} {v : Values} {held : List ℕ} {ended : Bool} (later : List ℕ)
+      → slice_get d.nodes node ≡ Some (Many part) → FitWidths d v → (ended ≡ true → later ≡ [])
+      → (held ++ later ≡ [] → ⊥) → Picks d most node (o % 8) held ended Leave → NFollow d part o v (held ++ later) → ⊥
   left_part_follows_none {part = part} later at widths over some pick h =
       left_follows_none later at widths over some pick (follows_at (Many part) at (follows_many (many_here h)))

@@ -36,7 +36,10 @@ right_key : InKeys either_from_zero 12 4 0 (0 ∷ 1 ∷ []) true
 right_key =
     keys_at _ refl (keys_seq (
     parts_whole (0 ∷ []) (1 ∷ []) true (keys_at _ refl (keys_lits (kept (lit≤ tt) refl refl)))
-    (parts_whole (1 ∷ []) [] true (keys_at _ refl (keys_named (keys_at _ refl (keys_field (1 ∷ []) refl (lit≤ tt, tt) (kept (lit≤ tt) refl refl))))) (parts_none refl refl) (kept (lit≤ tt) refl refl))
+    (parts_whole (1 ∷ []) [] true
+    (keys_at _ refl
+    (keys_named (keys_at _ refl (keys_field (1 ∷ []) refl (lit≤ tt, tt) (kept (lit≤ tt) refl refl)))))
+    (parts_none refl refl) (kept (lit≤ tt) refl refl))
     (kept (lit≤ tt) refl refl)))
 
 -- so they overlap

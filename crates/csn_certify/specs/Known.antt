@@ -1,7 +1,11 @@
 -- What the laws of csn_desc and csn_look say of values, of meant and followed bits and of what stands behind parts, in
 -- one record, which lemmas take. No public contract cites it.
 use Rattle.csn_desc.specs.Laws.{NodesAreWellFormed, ValuesStayThere, ValuesStayFitting, NoValuesFit, CountsAreNumbers}
-use Rattle.csn_look.specs.Laws.{NoBitsAreOfNullable, MeantBitsEnd, MeantBitsStart, FollowedBitsStart, MeantBitsBeginWithKeys, FollowedBitsBeginKeys, NodesHaveKeys, KeysStart, BehindPartsOfSequences, FollowedBehindPartsOfSequences, BehindTurns, FollowedBehindTurns, BehindFreeTurns, FollowedBehindFreeTurns, BehindAlternatives, BehindLabelledParts, ChoicesReach}
+use Rattle.csn_look.specs.Laws.{NoBitsAreOfNullable, MeantBitsEnd, MeantBitsStart, FollowedBitsStart}
+use Rattle.csn_look.specs.Laws.{MeantBitsBeginWithKeys, FollowedBitsBeginKeys, NodesHaveKeys, KeysStart}
+use Rattle.csn_look.specs.Laws.{BehindPartsOfSequences, FollowedBehindPartsOfSequences, BehindTurns}
+use Rattle.csn_look.specs.Laws.{FollowedBehindTurns, BehindFreeTurns, FollowedBehindFreeTurns, BehindAlternatives}
+use Rattle.csn_look.specs.Laws.{BehindLabelledParts, ChoicesReach}
 
 pub record Known : Type 0 where
   pub formed : NodesAreWellFormed

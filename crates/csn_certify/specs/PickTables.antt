@@ -1,6 +1,7 @@
 -- Tables of what look-ahead tells at a choice: an entry for each word of as many bits as the choice needs. Entries
 -- are kept in blocks of so many, each without the refusals at its end.
-use Rattle.std.specs.Prelude.{◌≡◌, ◌≢◌, ℕ, ◌+◌, ◌*◌, ◌/◌, ◌%◌, ◌^◌, ◌<◌, ◌≤◌, List, [], ◌∷◌, map, length, take, slice_get, slice_index, slice_index_or, Option, Some, None, true, false, refl}
+use Rattle.std.specs.Prelude.{◌≡◌, ◌≢◌, ℕ, ◌+◌, ◌*◌, ◌/◌, ◌%◌, ◌^◌, ◌<◌, ◌≤◌, List, [], ◌∷◌, map, length, take}
+use Rattle.std.specs.Prelude.{slice_get, slice_index, slice_index_or, Option, Some, None, true, false, refl}
 use Rattle.std.specs.List.{AllPairs}
 use Rattle.std.specs.Coded.{Coded, code_by, coded×, coded_ℕ, coded_list, coded_option}
 use Rattle.csn_desc.specs.declared.node.Node.TheVariants.{Choice}

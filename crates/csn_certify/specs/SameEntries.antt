@@ -29,4 +29,5 @@ block_told [] [] h = refl
 block_told [] (y ∷ ys) h = absurd (true≢false (sym h))
 block_told (x ∷ xs) [] h = absurd (true≢false (sym h))
 block_told (x ∷ xs) (y ∷ ys) h =
-    λ k. entry_told x y (first_so (same_entry x y) (pointwise same_entry xs ys) h) k ∷ block_told xs ys (second_so (same_entry x y) (pointwise same_entry xs ys) h) k
+    λ k. entry_told x y (first_so (same_entry x y) (pointwise same_entry xs ys) h) k ∷ block_told xs ys
+    (second_so (same_entry x y) (pointwise same_entry xs ys) h) k

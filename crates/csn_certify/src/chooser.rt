@@ -80,7 +80,8 @@ impl Chooser<'_> {
         requires below { HasPartsBelow (Choice self.now.parts.now) (length self.now.desc.now.nodes) }
         requires octet { self.now.octet ≤ 7 }
         requires alternative { j < length self.now.parts.now }
-        ensures { MatchOption result (IsNone self.now.desc.now self.now.parts.now j) (λ table. HasMarks self.now.desc.now self.now.parts.now self.now.octet j table.now) }
+        ensures { MatchOption result (IsNone self.now.desc.now self.now.parts.now j)
+            (λ table. HasMarks self.now.desc.now self.now.parts.now self.now.octet j table.now) }
     {
         let part = self.parts.get(j);
         match self.desc.node(part) {

@@ -1,7 +1,15 @@
 //! Laws over the definitions, each the contract of a function that does nothing.
 
 ghost use Rattle.csn_certify.specs.Known.{Known};
-ghost use Rattle.csn_certify.specs.Laws.{FirstConflictIsOne, CertifiedHasNoConflict, LongerWordsCertify, NoContinuation, BlocksHaveOneTree, PicksAreOne, TakesStay, ChoicesTakeTheOne, ChoicesRefuseNone, RepetitionsGoOn, RepetitionsStop, FollowedTakeTheOne, FollowedRefuseNone, FollowedGoOn, FollowedStop, FollowedTurnsStop, FreeTurnsHaveBits, CountedTurnsHaveBits, NoBitFollowsTheLast, NothingIsBehindTheLast, NoBitFollowsComponents, NoBitFollowsTrees, TruncationsGoOn, FollowedTruncationsGoOn, TruncationsEnd, WaitingIsFollowed, WaitingHoldsFew, WaitingEndsInRefusal, RefusedHasNoEmptyTree, FollowedBeginStrings, FollowedInOneWay};
+ghost use Rattle.csn_certify.specs.Laws.{FirstConflictIsOne, CertifiedHasNoConflict, LongerWordsCertify};
+ghost use Rattle.csn_certify.specs.Laws.{NoContinuation, BlocksHaveOneTree, PicksAreOne, TakesStay};
+ghost use Rattle.csn_certify.specs.Laws.{ChoicesTakeTheOne, ChoicesRefuseNone, RepetitionsGoOn, RepetitionsStop};
+ghost use Rattle.csn_certify.specs.Laws.{FollowedTakeTheOne, FollowedRefuseNone, FollowedGoOn, FollowedStop};
+ghost use Rattle.csn_certify.specs.Laws.{FollowedTurnsStop, FreeTurnsHaveBits, CountedTurnsHaveBits};
+ghost use Rattle.csn_certify.specs.Laws.{NoBitFollowsTheLast, NothingIsBehindTheLast, NoBitFollowsComponents};
+ghost use Rattle.csn_certify.specs.Laws.{NoBitFollowsTrees, TruncationsGoOn, FollowedTruncationsGoOn, TruncationsEnd};
+ghost use Rattle.csn_certify.specs.Laws.{WaitingIsFollowed, WaitingHoldsFew, WaitingEndsInRefusal};
+ghost use Rattle.csn_certify.specs.Laws.{RefusedHasNoEmptyTree, FollowedBeginStrings, FollowedInOneWay};
 
 /// What the laws of csn_desc and csn_look say, as the lemmas here take it.
 fn known()

@@ -5,7 +5,8 @@ use Rattle.csn_desc.specs.declared.node.Node.{Node}
 use Rattle.csn_desc.specs.Nodes.{DescV}
 use Rattle.csn_desc.specs.Formed.{IsDescription}
 use Rattle.csn_cert.specs.CertificateV.{NodeV}
-use Rattle.csn_claims.specs.Conflicts.{HasConflict, IsNotFirm, two_empty, choice_not_firm, many_not_firm, times_not_firm, overlap, empty_clash, loop_clash, not_last}
+use Rattle.csn_claims.specs.Conflicts.{HasConflict, IsNotFirm, two_empty, choice_not_firm, many_not_firm}
+use Rattle.csn_claims.specs.Conflicts.{times_not_firm, overlap, empty_clash, loop_clash, not_last}
 use Rattle.csn_look.specs.Keys as key
 use Rattle.csn_certify.specs.declared.conflict.Conflict.{Conflict}
 use Rattle.csn_certify.specs.declared.conflict.Conflict.TheVariants.{TwoEmpty, NotFirm, Overlap, EmptyClash, LoopClash, NotLast}

@@ -1,5 +1,7 @@
 -- What stands behind first patterns, cut to the marks that there is room for, makes the same with them.
-use Rattle.std.proofs.Common.{◌≡◌, ℕ, zero, suc, inl, inr, ◌+◌, ◌-◌, ◌%◌, ◌<◌, ◌≤◌, Bool, true, false, ◌&&◌, List, [], ◌∷◌, ◌++◌, length, take, map, flat_map, refl, sym, ap, ◌∙◌, subst, arith, get_or, length-append}
+use Rattle.std.proofs.Common.{◌≡◌, ℕ, zero, suc, inl, inr, ◌+◌, ◌-◌, ◌%◌, ◌<◌, ◌≤◌, Bool, true, false, ◌&&◌, List, []}
+use Rattle.std.proofs.Common.{◌∷◌, ◌++◌, length, take, map, flat_map, refl, sym, ap, ◌∙◌, subst, arith, get_or}
+use Rattle.std.proofs.Common.{length-append}
 use Rattle.std.specs.Prelude.{nat_le}
 use Rattle.std.specs.List.{Contains}
 use Rattle.std.proofs.lemmas.Bool.Decides.{nat_tests}
@@ -15,7 +17,8 @@ use Rattle.csn_certmake.proofs.Members.{from_flat, to_flat, map_same}
 
 -- ---- patterns cut to the room behind another
 
-pub cut_joins : (first rest : PatternV) (room : ℕ) → length first.marks ≤ 12 → room ≡ 12 - length first.marks → joined first (cut_to room rest) ≡ joined first rest
+pub cut_joins : (first rest : PatternV) (room : ℕ) → length first.marks ≤ 12 → room ≡ 12 - length first.marks
+    → joined first (cut_to room rest) ≡ joined first rest
 cut_joins first rest room few is_room = by_test (nat_le (length rest.marks) room) refl
   where
     never : (b : Bool) → false ≡ (b && false)
@@ -35,7 +38,9 @@ cut_joins first rest room few is_room = by_test (nat_le (length rest.marks) room
         ∙ joined_is first rest room room false few is_room (omega (arith, big)) (never rest.whole ∙ ap (λ b. rest.whole && b) (sym low))
         )
 
-maps_cut : (first : PatternV) (room : ℕ) (rests : List PatternV) → length first.marks ≤ 12 → room ≡ 12 - length first.marks → map (joined first) (map (cut_to room) rests) ≡ map (joined first) rests
+maps_cut : (first : PatternV) (room : ℕ) (rests : List PatternV)
+    → length first.marks ≤ 12 → room ≡ 12 - length first.marks → map (joined first) (map (cut_to room) rests) ≡ map
+    (joined first) rests
 maps_cut first room [] few is_room = refl
 maps_cut first room (rest ∷ rests) few is_room =
     ap (λ p. p ∷ map (joined first) (map (cut_to room) rests)) (cut_joins first rest room few is_room)
@@ -43,7 +48,9 @@ maps_cut first room (rest ∷ rests) few is_room =
 
 -- ---- what first patterns make
 
-by_size_same : (firsts : List PatternV) (octet : ℕ) (rests behind : List (List PatternV)) (first : PatternV) → AreBehind firsts octet rests behind → Contains firsts first → length first.marks ≤ 12 → HasSame (continued_by behind first) (continued rests octet first)
+by_size_same : (firsts : List PatternV) (octet : ℕ) (rests behind : List (List PatternV)) (first : PatternV)
+    → AreBehind firsts octet rests behind → Contains firsts first → length first.marks ≤ 12
+    → HasSame (continued_by behind first) (continued rests octet first)
 by_size_same firsts octet rests behind first are there few = by_whole first.whole refl
   where
     by_whole : (b : Bool) → first.whole ≡ b → HasSame (continued_by behind first) (continued rests octet first)
@@ -55,12 +62,16 @@ by_size_same firsts octet rests behind first are there few = by_whole first.whol
         let same = map_same (joined first) (patterns_in behind size) cut (are.each size few (record { pattern = first; there = there; marks = refl })) in
         rw is (subst (λ (l : List PatternV). HasSame (map (joined first) (patterns_in behind size)) l) (maps_cut first (12 - size) own few refl) same)
 
-pub all_same : (firsts : List PatternV) (octet : ℕ) (rests behind : List (List PatternV)) → AreBehind firsts octet rests behind → HaveFewMarks firsts → HasSame (flat_map (continued_by behind) firsts) (flat_map (continued rests octet) firsts)
+pub all_same : (firsts : List PatternV) (octet : ℕ) (rests behind : List (List PatternV))
+    → AreBehind firsts octet rests behind → HaveFewMarks firsts → HasSame (flat_map (continued_by behind) firsts)
+    (flat_map (continued rests octet) firsts)
 all_same firsts octet rests behind are few p = (
   λ h. let found = from_flat (continued_by behind) firsts p h in
-      to_flat (continued rests octet) firsts found.1.0 found.0 p found.1.1 found.1.2 ((by_size_same firsts octet rests behind found.0 are found.1 (few found.0 found.1) p).0 found.2),
+      to_flat (continued rests octet) firsts found.1.0 found.0 p found.1.1 found.1.2
+      ((by_size_same firsts octet rests behind found.0 are found.1 (few found.0 found.1) p).0 found.2),
   λ h. let found = from_flat (continued rests octet) firsts p h in
-      to_flat (continued_by behind) firsts found.1.0 found.0 p found.1.1 found.1.2 ((by_size_same firsts octet rests behind found.0 are found.1 (few found.0 found.1) p).1 found.2),
+      to_flat (continued_by behind) firsts found.1.0 found.0 p found.1.1 found.1.2
+      ((by_size_same firsts octet rests behind found.0 are found.1 (few found.0 found.1) p).1 found.2),
 )
 
 -- ---- lists that are gone through
@@ -72,7 +83,8 @@ only_one x p (suc k, low, is) = absurd (omega arith)
 pub none_few : (patterns : List PatternV) → HaveFewMarks (take 0 patterns)
 none_few patterns p h = absurd (omega (arith, h.1))
 
-pub next_few : (patterns : List PatternV) (k : ℕ) (x : PatternV) → k < length patterns → x ≡ get_or patterns k x → length x.marks ≤ 12 → HaveFewMarks (take k patterns) → HaveFewMarks (take (k + 1) patterns)
+pub next_few : (patterns : List PatternV) (k : ℕ) (x : PatternV) → k < length patterns → x ≡ get_or patterns k x
+    → length x.marks ≤ 12 → HaveFewMarks (take k patterns) → HaveFewMarks (take (k + 1) patterns)
 next_few patterns k x low is few before =
     subst (λ (l : List PatternV). HaveFewMarks l) (sym (take_more patterns k x low ∙ ap (λ y. take k patterns ++ y ∷ []) (sym is))) (λ p h.
     elim (Contains-append_cases (take k patterns) (x ∷ []) p h) [
@@ -83,7 +95,9 @@ next_few patterns k x low is few before =
 pub none_sized : (patterns : List PatternV) (size : ℕ) → HasSize (take 0 patterns) size → ⊥
 none_sized patterns size h = absurd (omega (arith, h.there.1))
 
-pub next_sized : (patterns : List PatternV) (k size : ℕ) (x : PatternV) → k < length patterns → x ≡ get_or patterns k x → (length x.marks ≡ size → ⊥) → (HasSize (take k patterns) size → ⊥) → HasSize (take (k + 1) patterns) size → ⊥
+pub next_sized : (patterns : List PatternV) (k size : ℕ) (x : PatternV)
+    → k < length patterns → x ≡ get_or patterns k x → (length x.marks ≡ size → ⊥)
+    → (HasSize (take k patterns) size → ⊥) → HasSize (take (k + 1) patterns) size → ⊥
 next_sized patterns k size x low is other before =
     subst (λ (l : List PatternV). HasSize l size → ⊥) (sym (take_more patterns k x low ∙ ap (λ y. take k patterns ++ y ∷ []) (sym is))) (λ h.
     elim (Contains-append_cases (take k patterns) (x ∷ []) h.pattern h.there) [
@@ -91,7 +105,8 @@ next_sized patterns k size x low is other before =
       | inr last ↦ other (ap (λ (q : PatternV). length q.marks) (only_one x h.pattern last) ∙ h.marks)
     ])
 
-pub sized_here : (patterns : List PatternV) (k size : ℕ) (x : PatternV) → k < length patterns → x ≡ get_or patterns k x → length x.marks ≡ size → HasSize patterns size
+pub sized_here : (patterns : List PatternV) (k size : ℕ) (x : PatternV)
+    → k < length patterns → x ≡ get_or patterns k x → length x.marks ≡ size → HasSize patterns size
 sized_here patterns k size x low is marks = record { pattern = x; there = (k, low, sym is); marks = marks }
 
 -- ---- for each number of marks
@@ -103,14 +118,19 @@ pub record BehindTo (first : List PatternV) (octet : ℕ) (rests behind : List (
 pub behind_none : (first : List PatternV) (octet : ℕ) (rests : List (List PatternV)) → BehindTo first octet rests [] 0
 behind_none first octet rests = record { sizes = refl; each = λ size low. absurd (omega arith) }
 
-pub behind_more : (first : List PatternV) (octet : ℕ) (rests behind new : List (List PatternV)) (n : ℕ) (own patterns : List PatternV) → BehindTo first octet rests behind n → patterns_in rests ((octet + n) % 8) ≡ own → AreBehindSize first n own patterns → new ≡ behind ++ patterns ∷ [] → BehindTo first octet rests new (n + 1)
+pub behind_more : (first : List PatternV) (octet : ℕ) (rests behind new : List (List PatternV)) (n : ℕ)
+    (own patterns : List PatternV) → BehindTo first octet rests behind n → patterns_in rests ((octet + n) % 8) ≡ own
+    → AreBehindSize first n own patterns → new ≡ behind ++ patterns ∷ [] → BehindTo first octet rests new (n + 1)
 behind_more first octet rests behind new n own patterns to is here pushed =
     subst (λ (l : List (List PatternV)). BehindTo first octet rests l (n + 1)) (sym pushed) (record {
       sizes = length-append behind (patterns ∷ []) ∙ ap (λ k. k + 1) to.sizes;
-      each = one_more (λ s l. AreBehindSize first s (patterns_in rests ((octet + s) % 8)) l) behind patterns n to.sizes to.each (subst (λ (l : List PatternV). AreBehindSize first n l patterns) (sym is) here);
+      each = one_more (λ s l. AreBehindSize first s (patterns_in rests ((octet + s) % 8)) l)
+          behind patterns n to.sizes to.each (subst (λ (l : List PatternV). AreBehindSize first n l patterns) (sym is)
+          here);
     })
 
-pub behind_all : (first : List PatternV) (octet : ℕ) (rests behind : List (List PatternV)) (n : ℕ) → n ≡ 13 → BehindTo first octet rests behind n → AreBehind first octet rests behind
+pub behind_all : (first : List PatternV) (octet : ℕ) (rests behind : List (List PatternV)) (n : ℕ)
+    → n ≡ 13 → BehindTo first octet rests behind n → AreBehind first octet rests behind
 behind_all first octet rests behind n is to =
     record {
       sizes = to.sizes ∙ is;

@@ -3,10 +3,22 @@ use Rattle.std.proofs.Common.{ℕ, List, sym, subst, Option, Some}
 use Rattle.csn_desc.specs.declared.node.Node.{Node}
 use Rattle.csn_desc.specs.Nodes.{DescV}
 use Rattle.csn_cert.specs.CertificateV.{NodeV}
-use Rattle.csn_claims.specs.Nullable.{NodeNullable, AllNullable, all_end, all_next, nullable_null, nullable_rest, nullable_many, nullable_trunc, nullable_field, nullable_times, nullable_no_times, nullable_window, nullable_seq, nullable_choice, nullable_named}
-use Rattle.csn_claims.specs.Ends.{PartsEnd, parts_end, parts_next, TimesEnd, times_end, times_next, ManyEnd, many_end, many_next, LeadEnd, lead_end, lead_next, NodeEnds, ends_lits, ends_spare, ends_null, ends_pad, ends_rest, ends_field, ends_window, ends_seq, ends_choice, ends_times, ends_counted, ends_many, ends_trunc, ends_named}
-use Rattle.csn_claims.specs.Starts.{PartsStart, starts_here, starts_later, NodeStarts, starts_lits, starts_spare, starts_pad, starts_field, starts_rest, starts_seq, starts_trunc, starts_choice, starts_times, starts_many, starts_window, starts_named}
-use Rattle.csn_claims.specs.Reached.{PartReached, reached_seq, reached_trunc, reached_choice, reached_window, reached_named, reached_times, reached_counted, reached_many, PartFollow, follow_later, follow_seq, follow_kept, follow_trunc, follow_times_again, follow_times, follow_many_again, follow_many, follow_choice, follow_named, follow_window}
+use Rattle.csn_claims.specs.Nullable.{NodeNullable, AllNullable, all_end, all_next, nullable_null, nullable_rest}
+use Rattle.csn_claims.specs.Nullable.{nullable_many, nullable_trunc, nullable_field, nullable_times}
+use Rattle.csn_claims.specs.Nullable.{nullable_no_times, nullable_window, nullable_seq, nullable_choice}
+use Rattle.csn_claims.specs.Nullable.{nullable_named}
+use Rattle.csn_claims.specs.Ends.{PartsEnd, parts_end, parts_next, TimesEnd, times_end, times_next, ManyEnd, many_end}
+use Rattle.csn_claims.specs.Ends.{many_next, LeadEnd, lead_end, lead_next, NodeEnds, ends_lits, ends_spare, ends_null}
+use Rattle.csn_claims.specs.Ends.{ends_pad, ends_rest, ends_field, ends_window, ends_seq, ends_choice, ends_times}
+use Rattle.csn_claims.specs.Ends.{ends_counted, ends_many, ends_trunc, ends_named}
+use Rattle.csn_claims.specs.Starts.{PartsStart, starts_here, starts_later, NodeStarts, starts_lits, starts_spare}
+use Rattle.csn_claims.specs.Starts.{starts_pad, starts_field, starts_rest, starts_seq, starts_trunc, starts_choice}
+use Rattle.csn_claims.specs.Starts.{starts_times, starts_many, starts_window, starts_named}
+use Rattle.csn_claims.specs.Reached.{PartReached, reached_seq, reached_trunc, reached_choice, reached_window}
+use Rattle.csn_claims.specs.Reached.{reached_named, reached_times, reached_counted, reached_many, PartFollow}
+use Rattle.csn_claims.specs.Reached.{follow_later, follow_seq, follow_kept, follow_trunc, follow_times_again}
+use Rattle.csn_claims.specs.Reached.{follow_times, follow_many_again, follow_many, follow_choice, follow_named}
+use Rattle.csn_claims.specs.Reached.{follow_window}
 use Rattle.csn_look.specs.Nullable as null
 use Rattle.csn_look.specs.Ends as end
 use Rattle.csn_look.specs.Starts as start
@@ -41,7 +53,8 @@ module _ (d : DescV) (c : List NodeV) (claims : ClaimsLookAhead d c) where
 
   times_end_known : {n i o p : ℕ} → TimesEnd (claims_of c) n i o p → end.TimesEnd d n i o p
   times_end_known (times_end none same) = end.times_end none same
-  times_end_known {i = i} {o = o} (times_next m middle over h others) = end.times_next m middle over (ends_known d c claims i o middle h) (times_end_known others)
+  times_end_known {i = i} {o = o} (times_next m middle over h others) =
+      end.times_next m middle over (ends_known d c claims i o middle h) (times_end_known others)
 
   pub many_end_known : {i o p : ℕ} → ManyEnd (claims_of c) i o p → end.ManyEnd d i o p
   many_end_known (many_end same) = end.many_end same
@@ -71,7 +84,9 @@ module _ (d : DescV) (c : List NodeV) (claims : ClaimsLookAhead d c) where
 
   parts_start : {parts : List ℕ} {o bit : ℕ} → PartsStart (claims_of c) parts o bit → start.PartsStart d parts o bit
   parts_start {o = o} {bit = bit} (starts_here {i = i} h) = start.starts_here (starts_known d c claims i o bit h)
-  parts_start {o = o} (starts_later {i = i} middle none h others) = start.starts_later middle (nullable_known d c claims i none) (ends_known d c claims i o middle h) (parts_start others)
+  parts_start {o = o} (starts_later {i = i} middle none h others) =
+      start.starts_later middle (nullable_known d c claims i none) (ends_known d c claims i o middle h)
+      (parts_start others)
 
   pub node_starts : {n : Node} {o bit : ℕ} → NodeStarts d (claims_of c) n o bit → start.NodeStarts d n o bit
   node_starts (starts_seq h) = start.starts_seq (parts_start h)
@@ -103,7 +118,8 @@ module _ (d : DescV) (c : List NodeV) (claims : ClaimsLookAhead d c) where
   parts_start_sign {o = o} {bit = bit} (starts_here {i = i} h) = starts_sign d c claims i o bit h
   parts_start_sign (starts_later middle none h others) = parts_start_sign others
 
-  pub part_follow : {n : Node} {k : ℕ} {after : List ℕ} {i o : ℕ} {s : Option ℕ} → PartFollow (claims_of c) n k after i o s → reach.PartFollow d n k after i o s
+  pub part_follow : {n : Node} {k : ℕ} {after : List ℕ} {i o : ℕ} {s : Option ℕ}
+      → PartFollow (claims_of c) n k after i o s → reach.PartFollow d n k after i o s
   part_follow (follow_later h) = reach.follow_later (parts_start h)
   part_follow {k = k} {o = o} {s = s} (follow_seq all h) = reach.follow_seq (all_nullable all) (follow_known d c claims k o s h)
   part_follow (follow_kept h) = reach.follow_kept (parts_start h)

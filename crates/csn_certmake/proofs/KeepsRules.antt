@@ -63,7 +63,9 @@ module _ (d : DescV) (c : List NodeV) (is : IsDescription d) (claims : ClaimsLoo
   keeps_reached : ReachedAreOctets → (i : ℕ) (n : Node) → slice_get d.nodes i ≡ Some n → KeepsReached d c i n
   keeps_reached octets k n at = (root_reached octets k n at, part)
     where
-      part : (i from o : ℕ) (before after : List ℕ) → parts_of n ≡ before ++ i ∷ after → IsTrue ((claims_of c).reached k from) → PartReached (claims_of c) n before i from o → IsTrue ((claims_of c).reached i o)
+      part : (i from o : ℕ) (before after : List ℕ) → parts_of n ≡ before ++ i ∷ after
+          → IsTrue ((claims_of c).reached k from) → PartReached (claims_of c) n before i from o
+          → IsTrue ((claims_of c).reached i o)
       part i from o before after split reached h =
           let known = known_at d c claims k from reached in
           let here : reach.Reached d i o = reach.reached_part k from n before after at split known.reached (part_reached d c claims h) in
@@ -73,7 +75,9 @@ module _ (d : DescV) (c : List NodeV) (is : IsDescription d) (claims : ClaimsLoo
           let low = octets d i o here in
           (claims.reached i o inside (omega arith)).1 here
 
-  root_follow : (i : ℕ) (n : Node) → slice_get d.nodes i ≡ Some n → i ≡ 0 → (from o : ℕ) → IsTrue ((claims_of c).reached 0 from) → IsTrue ((claims_of c).ends 0 from o) → IsTrue ((claims_of c).follow 0 o None)
+  root_follow : (i : ℕ) (n : Node) → slice_get d.nodes i ≡ Some n → i ≡ 0 → (from o : ℕ)
+      → IsTrue ((claims_of c).reached 0 from) → IsTrue ((claims_of c).ends 0 from o)
+      → IsTrue ((claims_of c).follow 0 o None)
   root_follow i n at root from o reached ends =
       let inside = slice_get_within d.nodes i n at in
       follow_told d c claims 0 o None (omega arith) (ends_low d c claims 0 from o ends) no_sign (reach.follow_root refl refl)
@@ -81,7 +85,9 @@ module _ (d : DescV) (c : List NodeV) (is : IsDescription d) (claims : ClaimsLoo
   keeps_follow : (i : ℕ) (n : Node) → slice_get d.nodes i ≡ Some n → KeepsFollow d c i n
   keeps_follow k n at = (root_follow k n at, part)
     where
-      part : (i from o : ℕ) (s : Option ℕ) (before after : List ℕ) → parts_of n ≡ before ++ i ∷ after → IsTrue ((claims_of c).reached i from) → IsTrue ((claims_of c).ends i from o) → PartFollow (claims_of c) n k after i o s → IsTrue ((claims_of c).follow i o s)
+      part : (i from o : ℕ) (s : Option ℕ) (before after : List ℕ) → parts_of n ≡ before ++ i ∷ after
+          → IsTrue ((claims_of c).reached i from) → IsTrue ((claims_of c).ends i from o)
+          → PartFollow (claims_of c) n k after i o s → IsTrue ((claims_of c).follow i o s)
       part i from o s before after split reached ends h =
           let known = known_at d c claims i from reached in
           follow_told d c claims i o s (slice_get_within d.nodes i known.node known.there) (ends_low d c claims i from o ends)

@@ -1,5 +1,6 @@
 -- Each word for which a claimed pattern stands is a key of look-ahead.
-use Rattle.std.proofs.Common.{◌≡◌, ℕ, zero, suc, ◌+◌, ◌*◌, ◌%◌, ◌≤◌, Bool, true, false, List, ◌++◌, length, map, refl, sym, ◌∙◌, subst, arith, Option, Some, None, slice_get}
+use Rattle.std.proofs.Common.{◌≡◌, ℕ, zero, suc, ◌+◌, ◌*◌, ◌%◌, ◌≤◌, Bool, true, false, List, ◌++◌, length, map, refl}
+use Rattle.std.proofs.Common.{sym, ◌∙◌, subst, arith, Option, Some, None, slice_get}
 use Rattle.std.specs.Prelude.{IsTrue, Contains, is_some, replicate}
 use Rattle.csn_desc.specs.declared.symbol.Symbol.TheVariants.{Low}
 use Rattle.csn_desc.specs.declared.node.Node.{Node}
@@ -16,7 +17,11 @@ use Rattle.csn_cert.specs.Growing.{claimed}
 use Rattle.csn_look.specs.Keys.{Cut, kept, InKeys, PartsKeys, TimesKeys, NodeKeys}
 use Rattle.csn_look.specs.Keys as key
 use Rattle.csn_good.specs.ClaimedSets.{denotes, patterns_of, patterns_at, claims_of}
-use Rattle.csn_good.specs.Patterns.{mark_of, PartsPatterns, TimesPatterns, NodePatterns, parts_none, parts_cut, parts_whole, times_none, times_cut, times_whole, patterns_lits, patterns_field, patterns_spare, patterns_pad, patterns_null, patterns_rest, patterns_many, patterns_trunc, patterns_window, patterns_counted_field, patterns_counted_times, patterns_seq, patterns_times, patterns_choice, patterns_named}
+use Rattle.csn_good.specs.Patterns.{mark_of, PartsPatterns, TimesPatterns, NodePatterns, parts_none, parts_cut}
+use Rattle.csn_good.specs.Patterns.{parts_whole, times_none, times_cut, times_whole, patterns_lits, patterns_field}
+use Rattle.csn_good.specs.Patterns.{patterns_spare, patterns_pad, patterns_null, patterns_rest, patterns_many}
+use Rattle.csn_good.specs.Patterns.{patterns_trunc, patterns_window, patterns_counted_field, patterns_counted_times}
+use Rattle.csn_good.specs.Patterns.{patterns_seq, patterns_times, patterns_choice, patterns_named}
 use Rattle.csn_good.proofs.Denoting.{size_of, Says, says, found}
 use Rattle.csn_certmake.specs.Claimed.{ClaimsLookAhead}
 use Rattle.csn_certmake.proofs.Words.{pieces, left_of, says_along, no_bits, own_word, any_word, spare_word}
@@ -32,7 +37,8 @@ module _ (d : DescV) (c : List NodeV) where
   abbrev pub PartsAreKeys : List ℕ → Type 0
   PartsAreKeys parts = (j i : ℕ) → slice_get parts j ≡ Some i → AreKeys i
 
-  parts_keyed : {parts : List ℕ} {o : ℕ} {p : PatternV} (x : List ℕ) (mark : Bool) → PartsAreKeys parts → PartsPatterns c parts o p → Says p x mark → PartsKeys d 12 parts o x mark
+  parts_keyed : {parts : List ℕ} {o : ℕ} {p : PatternV} (x : List ℕ) (mark : Bool)
+      → PartsAreKeys parts → PartsPatterns c parts o p → Says p x mark → PartsKeys d 12 parts o x mark
   parts_keyed x mark keyed (parts_none is) said =
       let none = no_bits true x mark (says_along x mark is said) in key.parts_none none.0 none.1
   parts_keyed x mark keyed (parts_cut {i = i} {octet = o} {p = p} has cut) said =
@@ -64,7 +70,8 @@ module _ (d : DescV) (c : List NodeV) where
       (subst P (size_of first.marks two.first two.here) later)
       (subst Q two.is all.left)
 
-  node_keyed : {n : Node} {o : ℕ} {p : PatternV} (x : List ℕ) (mark : Bool) → PartsAreKeys (parts_of n) → NodePatterns d.reading c n o p → Says p x mark → NodeKeys d 12 n o x mark
+  node_keyed : {n : Node} {o : ℕ} {p : PatternV} (x : List ℕ) (mark : Bool) → PartsAreKeys (parts_of n)
+      → NodePatterns d.reading c n o p → Says p x mark → NodeKeys d 12 n o x mark
   node_keyed x mark keyed (patterns_lits {run = run} {octet = o} is) said =
       let all = left_of (map mark_of (spelled run o)) true x mark (says_along x mark is said) in
       let same = own_word (spelled run o) all.word (IsBits-spelled run o) all.stands in
@@ -87,8 +94,10 @@ module _ (d : DescV) (c : List NodeV) where
   node_keyed x mark keyed (patterns_many is) said = let none = no_bits false x mark (says_along x mark is said) in key.keys_many none.0 none.1
   node_keyed x mark keyed (patterns_trunc is) said = let none = no_bits false x mark (says_along x mark is said) in key.keys_trunc none.0 none.1
   node_keyed x mark keyed (patterns_window is) said = let none = no_bits false x mark (says_along x mark is said) in key.keys_window none.0 none.1
-  node_keyed x mark keyed (patterns_counted_field is) said = let none = no_bits false x mark (says_along x mark is said) in key.keys_counted_field none.0 none.1
-  node_keyed x mark keyed (patterns_counted_times is) said = let none = no_bits false x mark (says_along x mark is said) in key.keys_counted_times none.0 none.1
+  node_keyed x mark keyed (patterns_counted_field is) said = let none =
+      no_bits false x mark (says_along x mark is said) in key.keys_counted_field none.0 none.1
+  node_keyed x mark keyed (patterns_counted_times is) said = let none =
+      no_bits false x mark (says_along x mark is said) in key.keys_counted_times none.0 none.1
   node_keyed x mark keyed (patterns_seq made) said = key.keys_seq (parts_keyed x mark keyed made said)
   node_keyed x mark keyed (patterns_times {i = i} made) said = key.keys_times (times_keyed x mark (keyed 0 i refl) made said)
   node_keyed x mark keyed (patterns_choice {i = i} {octet = o} {p = p} j at has) said = key.keys_choice j at (keyed j i at o p x mark has said)
@@ -110,7 +119,8 @@ module _ (d : DescV) (c : List NodeV) (is : IsDescription d) (claims : ClaimsLoo
       let inside = slice_get_within d.nodes i at.node at.there in absurd (omega arith)
   keyed (suc left) i few o p x mark has said =
       let at = known_at d c claims i o (has_claim (claimed c i o) p has) in
-      let parts : PartsAreKeys d c (parts_of at.node) = parts_later d i at.node (AreKeys d c) is at.there (λ k later high. keyed left k (omega (arith, few, later))) in
+      let parts : PartsAreKeys d c (parts_of at.node) = parts_later d i at.node (AreKeys d c) is at.there
+      (λ k later high. keyed left k (omega (arith, few, later))) in
       key.keys_at at.node at.there (node_keyed d c x mark parts ((claims.patterns i o at.node p at.there at.low at.reached).0 has) said)
 
   pub keys_known : (i o : ℕ) (x : List ℕ) (mark : Bool) → IsTrue ((claims_of c).keys i o x mark) → InKeys d 12 i o x mark

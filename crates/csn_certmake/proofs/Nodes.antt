@@ -16,17 +16,23 @@ parts_rows table n known is rows = subst (λ m. AreRows table (parts_of m)) is r
 pub only_there : (table : List (List (List PatternV))) (i : ℕ) → AreRows table (i ∷ []) → i < length table
 only_there table i rows = rows.there 0 i refl
 
-pub only_row : (table : List (List (List PatternV))) (i : ℕ) (row : List (List PatternV)) → AreRows table (i ∷ []) → row ≡ get_or table i row → (slice_index_or table i [] ≡ row) × IsRow (patterns_in row) row
+pub only_row : (table : List (List (List PatternV))) (i : ℕ) (row : List (List PatternV)) → AreRows table (i ∷ [])
+    → row ≡ get_or table i row → (slice_index_or table i [] ≡ row) × IsRow (patterns_in row) row
 only_row table i row rows is =
     let read : slice_index_or table i [] ≡ row = row_read table i row (only_there table i rows) is in
     (read, subst (λ (r : List (List PatternV)). IsRow (patterns_in r) r) read (rows.rows 0 i refl))
 
 -- what a node that is known has
-pub node_row : {E : Type 0} (r : Result (List (List PatternV)) E) (reading : Reading) (table : List (List (List PatternV))) (n known : Node) → n ≡ known → IfOk r (λ row. IsRow (node_patterns reading table known) row) → IfOk r (λ row. IsRow (node_patterns reading table n) row)
+pub node_row : {E : Type 0} (r : Result (List (List PatternV)) E) (reading : Reading)
+    (table : List (List (List PatternV))) (n known : Node)
+    → n ≡ known → IfOk r (λ row. IsRow (node_patterns reading table known) row)
+    → IfOk r (λ row. IsRow (node_patterns reading table n) row)
 node_row r reading table n known is made = subst (λ m. IfOk r (λ row. IsRow (node_patterns reading table m) row)) (sym is) made
 
 -- what a node has that is known to have the one pattern of its own bits
-pub leaf_row : {E : Type 0} (r : Result (List (List PatternV)) E) (reading : Reading) (table : List (List (List PatternV))) (n known : Node) → n ≡ known → node_patterns reading table known ≡ (λ octet. leaf_pattern reading known octet ∷ [])
+pub leaf_row : {E : Type 0} (r : Result (List (List PatternV)) E) (reading : Reading)
+    (table : List (List (List PatternV))) (n known : Node)
+    → n ≡ known → node_patterns reading table known ≡ (λ octet. leaf_pattern reading known octet ∷ [])
     → IfOk r (λ row. IsRow (λ octet. leaf_pattern reading n octet ∷ []) row) → IfOk r (λ row. IsRow (node_patterns reading table n) row)
 leaf_row r reading table n known is leaf made =
     node_row r reading table n known is

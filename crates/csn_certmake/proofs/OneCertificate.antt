@@ -1,5 +1,6 @@
 -- One certificate claims what look-ahead knows of a description.
-use Rattle.std.proofs.Common.{◌≡◌, ℕ, zero, suc, ◌+◌, ◌<◌, ◌≤◌, inl, inr, Bool, true, false, List, [], ◌∷◌, length, refl, sym, ap, ◌∙◌, subst, arith, Option, Some, None, IfSome, slice_get}
+use Rattle.std.proofs.Common.{◌≡◌, ℕ, zero, suc, ◌+◌, ◌<◌, ◌≤◌, inl, inr, Bool, true, false, List, [], ◌∷◌, length}
+use Rattle.std.proofs.Common.{refl, sym, ap, ◌∙◌, subst, arith, Option, Some, None, IfSome, slice_get}
 use Rattle.std.specs.Prelude.{is_some, Contains}
 use Rattle.std.specs.List.{AllByRecursion}
 use Rattle.std.proofs.lemmas.Bool.{cases_lt}
@@ -19,7 +20,11 @@ use Rattle.csn_look.specs.Ends.{InEnds}
 use Rattle.csn_look.specs.Starts.{InStart}
 use Rattle.csn_look.specs.Reached.{Reached, InFollow}
 use Rattle.csn_good.specs.ClaimedSets.{is_nullable, ends_at, starts_with, followed_by, patterns_of, patterns_at, claims_of}
-use Rattle.csn_good.specs.Patterns.{PartsPatterns, TimesPatterns, NodePatterns, parts_none, parts_cut, parts_whole, times_none, times_cut, times_whole, patterns_lits, patterns_field, patterns_spare, patterns_pad, patterns_null, patterns_rest, patterns_many, patterns_trunc, patterns_window, patterns_counted_field, patterns_counted_times, patterns_seq, patterns_times, patterns_choice, patterns_named}
+use Rattle.csn_good.specs.Patterns.{PartsPatterns, TimesPatterns, NodePatterns, parts_none, parts_cut, parts_whole}
+use Rattle.csn_good.specs.Patterns.{times_none, times_cut, times_whole, patterns_lits, patterns_field, patterns_spare}
+use Rattle.csn_good.specs.Patterns.{patterns_pad, patterns_null, patterns_rest, patterns_many, patterns_trunc}
+use Rattle.csn_good.specs.Patterns.{patterns_window, patterns_counted_field, patterns_counted_times, patterns_seq}
+use Rattle.csn_good.specs.Patterns.{patterns_times, patterns_choice, patterns_named}
 use Rattle.csn_good.proofs.SetArms.{reached_small}
 use Rattle.csn_certmake.specs.Claimed.{ClaimsLookAhead, IsCertificateText}
 use Rattle.csn_certmake.proofs.Members.{item_at}
@@ -43,13 +48,15 @@ module _ (c e : List NodeV) where
       parts_whole first others (has_too i o first (same 0 i o refl low) has) whole
       (parts_alike (λ place j at there small. same (suc place) j at there small) (omega arith) rest) is
 
-  times_alike : {n i o : ℕ} {p : PatternV} → ((at : ℕ) → at ≤ 7 → patterns_at c i at ≡ patterns_at e i at) → o ≤ 7 → TimesPatterns c n i o p → TimesPatterns e n i o p
+  times_alike : {n i o : ℕ} {p : PatternV} → ((at : ℕ) → at ≤ 7 → patterns_at c i at ≡ patterns_at e i at)
+      → o ≤ 7 → TimesPatterns c n i o p → TimesPatterns e n i o p
   times_alike same low (times_none none is) = times_none none is
   times_alike {i = i} {o = o} {p = p} same low (times_cut m more has cut) = times_cut m more (has_too i o p (same o low) has) cut
   times_alike {i = i} {o = o} same low (times_whole m more first others has whole rest is) =
       times_whole m more first others (has_too i o first (same o low) has) whole (times_alike same (omega arith) rest) is
 
-  node_alike : {reading : Reading} {n : Node} {o : ℕ} {p : PatternV} → Alike c e (parts_of n) → o ≤ 7 → NodePatterns reading c n o p → NodePatterns reading e n o p
+  node_alike : {reading : Reading} {n : Node} {o : ℕ} {p : PatternV} → Alike c e (parts_of n)
+      → o ≤ 7 → NodePatterns reading c n o p → NodePatterns reading e n o p
   node_alike same low (patterns_lits is) = patterns_lits is
   node_alike same low (patterns_field is) = patterns_field is
   node_alike same low (patterns_spare is) = patterns_spare is
@@ -100,7 +107,8 @@ module _ (d : DescV) (c e : List NodeV) (is : IsDescription d) (claims : ClaimsL
       same_answer ((claims_of c).reached i o) ((claims_of e).reached i o) (Reached d i o) (claims.reached i o inside low) (others.reached i o inside low)
 
   -- at a node whose parts have the same patterns
-  own_patterns : (i o : ℕ) (n : Node) → slice_get d.nodes i ≡ Some n → i < length d.nodes → o ≤ 7 → Alike c e (parts_of n) → Alike e c (parts_of n) → patterns_at c i o ≡ patterns_at e i o
+  own_patterns : (i o : ℕ) (n : Node) → slice_get d.nodes i ≡ Some n → i < length d.nodes → o ≤ 7
+      → Alike c e (parts_of n) → Alike e c (parts_of n) → patterns_at c i o ≡ patterns_at e i o
   own_patterns i o n there inside low same back = by_claim ((claims_of c).reached i o) refl
     where
       by_claim : (b : Bool) → (claims_of c).reached i o ≡ b → patterns_at c i o ≡ patterns_at e i o
@@ -118,8 +126,10 @@ module _ (d : DescV) (c e : List NodeV) (is : IsDescription d) (claims : ClaimsL
   all_patterns (suc left) i room inside o low =
       let n = item_at d.nodes i inside in
       let parts : (place p : ℕ) → slice_get (parts_of n.0) place ≡ Some p → (o : ℕ) → o ≤ 7 → patterns_at c p o ≡ patterns_at e p o =
-      parts_later d i n.0 (λ (p : ℕ). (o : ℕ) → o ≤ 7 → patterns_at c p o ≡ patterns_at e p o) is n.1 (λ p above within. all_patterns left p (omega (arith, room, above)) within) in
-      own_patterns i o n.0 n.1 inside low (λ place p at found small. parts place p found at small) (λ place p at found small. sym (parts place p found at small))
+      parts_later d i n.0 (λ (p : ℕ). (o : ℕ) → o ≤ 7 → patterns_at c p o ≡ patterns_at e p o) is n.1
+      (λ p above within. all_patterns left p (omega (arith, room, above)) within) in
+      own_patterns i o n.0 n.1 inside low (λ place p at found small. parts place p found at small)
+      (λ place p at found small. sym (parts place p found at small))
 
   low_claims : (i o : ℕ) → i < length d.nodes → o ≤ 7 → claimed c i o ≡ claimed e i o
   low_claims i o inside low =
@@ -129,11 +139,13 @@ module _ (d : DescV) (c e : List NodeV) (is : IsDescription d) (claims : ClaimsL
       (λ there place less.
       let reached : Reached d i o = (claims.reached i o inside low).0 there in
       let small : place ≤ 7 = omega (arith, less) in
-      same_answer (ends_at (claimed c i o) place) (ends_at (claimed e i o) place) (InEnds d i o place) (claims.ends i o place inside low small reached) (others.ends i o place inside low small reached))
+      same_answer (ends_at (claimed c i o) place) (ends_at (claimed e i o) place) (InEnds d i o place)
+      (claims.ends i o place inside low small reached) (others.ends i o place inside low small reached))
       (λ there place less.
       let reached : Reached d i o = (claims.reached i o inside low).0 there in
       let small : place ≤ 1 = omega (arith, less) in
-      same_answer (starts_with (claimed c i o) place) (starts_with (claimed e i o) place) (InStart d i o place) (claims.start i o place inside low small reached) (others.start i o place inside low small reached))
+      same_answer (starts_with (claimed c i o) place) (starts_with (claimed e i o) place) (InStart d i o place)
+      (claims.start i o place inside low small reached) (others.start i o place inside low small reached))
       (all_patterns (length d.nodes) i (omega arith) inside o low)
 
   -- beyond the octet positions nothing is claimed
@@ -157,7 +169,9 @@ module _ (d : DescV) (c e : List NodeV) (is : IsDescription d) (claims : ClaimsL
       nodes_same (slice_get c i) (slice_get e i) (nodes_are c i claims.certificate.nodes) (nodes_are e i others.certificate.nodes)
       (some_at c i less) (some_at e i less')
       (same_answer (is_nullable (slice_get c i)) (is_nullable (slice_get e i)) (Nullable d i) (claims.nullable i inside) (others.nullable i inside))
-      (λ o sign low. same_answer (followed_by (slice_get c i) o (bit_of_sign sign)) (followed_by (slice_get e i) o (bit_of_sign sign)) (InFollow d i o (bit_of_sign sign)) (claims.follow i o sign inside low) (others.follow i o sign inside low))
+      (λ o sign low. same_answer (followed_by (slice_get c i) o (bit_of_sign sign))
+      (followed_by (slice_get e i) o (bit_of_sign sign)) (InFollow d i o (bit_of_sign sign))
+      (claims.follow i o sign inside low) (others.follow i o sign inside low))
       (λ o. all_claims i o inside)
 
   pub one_certificate : c ≡ e

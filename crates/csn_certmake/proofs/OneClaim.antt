@@ -1,5 +1,6 @@
 -- Claims that say the same are one.
-use Rattle.std.proofs.Common.{◌≡◌, ℕ, zero, suc, ◌+◌, ◌*◌, ◌/◌, ◌%◌, ◌^◌, ◌<◌, ◌≤◌, ◌↔◌, Bool, true, false, List, [], ◌∷◌, refl, sym, ap, ◌∙◌, subst, arith, Option, Some, None, IfSome, find}
+use Rattle.std.proofs.Common.{◌≡◌, ℕ, zero, suc, ◌+◌, ◌*◌, ◌/◌, ◌%◌, ◌^◌, ◌<◌, ◌≤◌, ◌↔◌, Bool, true, false, List, []}
+use Rattle.std.proofs.Common.{◌∷◌, refl, sym, ap, ◌∙◌, subst, arith, Option, Some, None, IfSome, find}
 use Rattle.std.specs.Prelude.{IsTrue, is_some, ◌==◌}
 use Rattle.std.specs.List.{AllByRecursion}
 use Rattle.std.proofs.lemmas.Bool.Decides.{nat_tests}
@@ -44,10 +45,13 @@ number_same count m n small small' same =
     sym (number_of-low_bits_small count m small) ∙ ap number_of (digits_same count m n same) ∙ number_of-low_bits_small count n small'
 
 -- the digits of what may follow, by octet position and sign
-follow_digits_same : (f g : ℕ) → ((o : ℕ) (sign : Sign) → o ≤ 7 → follow_digit f o (bit_of_sign sign) ≡ follow_digit g o (bit_of_sign sign)) → (place : ℕ) → place < 24 → has_digit 24 f place ≡ has_digit 24 g place
+follow_digits_same : (f g : ℕ)
+    → ((o : ℕ) (sign : Sign) → o ≤ 7 → follow_digit f o (bit_of_sign sign) ≡ follow_digit g o (bit_of_sign sign))
+    → (place : ℕ) → place < 24 → has_digit 24 f place ≡ has_digit 24 g place
 follow_digits_same f g same place less = by_rest (place % 3) refl
   where
-    at : (rest : ℕ) → 3 * (place / 3) + rest ≡ place → has_digit 24 f (3 * (place / 3) + rest) ≡ has_digit 24 g (3 * (place / 3) + rest) → has_digit 24 f place ≡ has_digit 24 g place
+    at : (rest : ℕ) → 3 * (place / 3) + rest ≡ place → has_digit 24 f (3 * (place / 3) + rest) ≡ has_digit 24 g
+        (3 * (place / 3) + rest) → has_digit 24 f place ≡ has_digit 24 g place
     at rest is digits = subst (λ k. has_digit 24 f k ≡ has_digit 24 g k) is digits
 
     by_rest : (rest : ℕ) → place % 3 ≡ rest → has_digit 24 f place ≡ has_digit 24 g place
@@ -63,7 +67,8 @@ pub record IsClaimAt (o : ℕ) (p : PositionV) : Type 0 where
   pub position : IsPosition p
   pub octet : p.octet ≡ o
 
-found_is : (p : PositionV) (ps : List PositionV) (o : ℕ) (b : Bool) → (p.octet == o) ≡ b → IsPosition p → IfSome (find (λ q. q.octet == o) ps) (IsClaimAt o) → IfSome (find (λ q. q.octet == o) (p ∷ ps)) (IsClaimAt o)
+found_is : (p : PositionV) (ps : List PositionV) (o : ℕ) (b : Bool) → (p.octet == o) ≡ b → IsPosition p
+    → IfSome (find (λ q. q.octet == o) ps) (IsClaimAt o) → IfSome (find (λ q. q.octet == o) (p ∷ ps)) (IsClaimAt o)
 found_is p ps o true is here later = (let same : p.octet ≡ o = grind (arith, nat_tests, is) in rw is (record { position = here; octet = same }))
 found_is p ps o false is here later = rw is later
 
@@ -75,7 +80,10 @@ pub claim_is : (n : Option NodeV) (o : ℕ) → IfSome n IsNode → IfSome (clai
 claim_is None o are = tt
 claim_is (Some n) o are = find_is n.positions o are.positions
 
-position_same : (o : ℕ) (p q : PositionV) → IsClaimAt o p → IsClaimAt o q → ((place : ℕ) → place < 8 → has_digit 8 p.ends place ≡ has_digit 8 q.ends place) → ((place : ℕ) → place < 2 → has_digit 2 p.start place ≡ has_digit 2 q.start place) → p.patterns ≡ q.patterns → p ≡ q
+position_same : (o : ℕ) (p q : PositionV) → IsClaimAt o p → IsClaimAt o q
+    → ((place : ℕ) → place < 8 → has_digit 8 p.ends place ≡ has_digit 8 q.ends place)
+    → ((place : ℕ) → place < 2 → has_digit 2 p.start place ≡ has_digit 2 q.start place)
+    → p.patterns ≡ q.patterns → p ≡ q
 position_same o p q is has ends start patterns =
     let eight : 2 ^ 8 ≡ 256 = refl in
     let two : 2 ^ 2 ≡ 4 = refl in
@@ -83,10 +91,14 @@ position_same o p q is has ends start patterns =
     let ends_are : p.ends ≡ q.ends = number_same 8 p.ends q.ends (omega (arith, eight, is.position.ends)) (omega (arith, eight, has.position.ends)) ends in
     let start_is : p.start ≡ q.start = number_same 2 p.start q.start (omega (arith, two, is.position.start)) (omega (arith, two, has.position.start)) start in
     let made : ℕ → ℕ → ℕ → PositionV = λ a b c. record { octet = a; ends = b; start = c; patterns = p.patterns } in
-    ap (λ a. made a p.ends p.start) octet ∙ ap (λ b. made q.octet b p.start) ends_are ∙ ap (λ c. made q.octet q.ends c) start_is ∙ ap (λ l. record q { patterns = l }) patterns
+    ap (λ a. made a p.ends p.start) octet ∙ ap (λ b. made q.octet b p.start) ends_are
+    ∙ ap (λ c. made q.octet q.ends c) start_is ∙ ap (λ l. record q { patterns = l }) patterns
 
 -- claims at an octet position that say the same
-pub claim_same : (o : ℕ) (k l : Option PositionV) → IfSome k (IsClaimAt o) → IfSome l (IsClaimAt o) → is_some k ≡ is_some l → (IsTrue (is_some k) → (place : ℕ) → place < 8 → ends_at k place ≡ ends_at l place) → (IsTrue (is_some k) → (place : ℕ) → place < 2 → starts_with k place ≡ starts_with l place) → patterns_of k ≡ patterns_of l → k ≡ l
+pub claim_same : (o : ℕ) (k l : Option PositionV) → IfSome k (IsClaimAt o) → IfSome l (IsClaimAt o)
+    → is_some k ≡ is_some l → (IsTrue (is_some k) → (place : ℕ) → place < 8 → ends_at k place ≡ ends_at l place)
+    → (IsTrue (is_some k) → (place : ℕ) → place < 2 → starts_with k place ≡ starts_with l place)
+    → patterns_of k ≡ patterns_of l → k ≡ l
 claim_same o None None is has there ends start patterns = refl
 claim_same o None (Some q) is has there ends start patterns = absurd (cc)
 claim_same o (Some p) None is has there ends start patterns = absurd (cc)
@@ -94,16 +106,23 @@ claim_same o (Some p) (Some q) is has there ends start patterns = ap (λ r. Some
 
 -- ---- nodes
 
-node_same : (m n : NodeV) → IsNode m → IsNode n → m.nullable ≡ n.nullable → ((o : ℕ) (sign : Sign) → o ≤ 7 → follow_digit m.follow o (bit_of_sign sign) ≡ follow_digit n.follow o (bit_of_sign sign)) → ((o : ℕ) → find (λ p. p.octet == o) m.positions ≡ find (λ p. p.octet == o) n.positions) → m ≡ n
+node_same : (m n : NodeV) → IsNode m → IsNode n → m.nullable ≡ n.nullable
+    → ((o : ℕ) (sign : Sign) → o ≤ 7 → follow_digit m.follow o (bit_of_sign sign) ≡ follow_digit n.follow o
+    (bit_of_sign sign)) → ((o : ℕ) → find (λ p. p.octet == o) m.positions ≡ find (λ p. p.octet == o) n.positions)
+    → m ≡ n
 node_same m n is has nullable follow positions =
     let digits : 2 ^ 24 ≡ 16777216 = refl in
-    let follow_is : m.follow ≡ n.follow = number_same 24 m.follow n.follow (omega (arith, digits, is.follow)) (omega (arith, digits, has.follow)) (follow_digits_same m.follow n.follow follow) in
+    let follow_is : m.follow ≡ n.follow = number_same 24 m.follow n.follow (omega (arith, digits, is.follow))
+    (omega (arith, digits, has.follow)) (follow_digits_same m.follow n.follow follow) in
     let positions_are : m.positions ≡ n.positions = positions_same m.positions n.positions is.rising has.rising positions in
     let made : Bool → ℕ → NodeV = λ a b. record { nullable = a; follow = b; positions = m.positions } in
     ap (λ a. made a m.follow) nullable ∙ ap (λ b. made n.nullable b) follow_is ∙ ap (λ ps. record n { positions = ps }) positions_are
 
 -- claims of a node that say the same
-pub nodes_same : (k l : Option NodeV) → IfSome k IsNode → IfSome l IsNode → is_some k ≡ true → is_some l ≡ true → is_nullable k ≡ is_nullable l → ((o : ℕ) (sign : Sign) → o ≤ 7 → followed_by k o (bit_of_sign sign) ≡ followed_by l o (bit_of_sign sign)) → ((o : ℕ) → claimed_of k o ≡ claimed_of l o) → k ≡ l
+pub nodes_same : (k l : Option NodeV) → IfSome k IsNode → IfSome l IsNode → is_some k ≡ true → is_some l ≡ true
+    → is_nullable k ≡ is_nullable l
+    → ((o : ℕ) (sign : Sign) → o ≤ 7 → followed_by k o (bit_of_sign sign) ≡ followed_by l o (bit_of_sign sign))
+    → ((o : ℕ) → claimed_of k o ≡ claimed_of l o) → k ≡ l
 nodes_same None l is has there there' nullable follow claims = absurd (cc)
 nodes_same (Some m) None is has there there' nullable follow claims = absurd (cc)
 nodes_same (Some m) (Some n) is has there there' nullable follow claims = ap (λ k. Some k) (node_same m n is has nullable follow claims)

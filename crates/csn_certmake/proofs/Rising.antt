@@ -1,5 +1,6 @@
 -- Lists that rise are told by what they have.
-use Rattle.std.proofs.Common.{◌≡◌, ◌≢◌, ℕ, zero, suc, ◌<◌, ◌⊎◌, ◌↔◌, inl, inr, Bool, true, false, List, [], ◌∷◌, length, refl, sym, ap, ◌∙◌, subst, arith, slice_index_or, slice_get, Some, None, find}
+use Rattle.std.proofs.Common.{◌≡◌, ◌≢◌, ℕ, zero, suc, ◌<◌, ◌⊎◌, ◌↔◌, inl, inr, Bool, true, false, List, [], ◌∷◌}
+use Rattle.std.proofs.Common.{length, refl, sym, ap, ◌∙◌, subst, arith, slice_index_or, slice_get, Some, None, find}
 use Rattle.std.specs.Prelude.{◌==◌, Contains}
 use Rattle.std.specs.List.{AllByRecursion}
 use Rattle.std.specs.Cmp.Lexicographic.{nat_list_cmp_total}
@@ -102,7 +103,8 @@ found_later p ps o differ = rw (octet_differs p.octet o differ) refl
 -- none is found in front of all
 none_before : (o : ℕ) (ps : List PositionV) → AllByRecursion (λ p. o < p.octet) ps → find (λ q. q.octet == o) ps ≡ None
 none_before o [] all = refl
-none_before o (p ∷ ps) all = (let low : o < p.octet = all.0 in let differ : p.octet ≢ o = omega (arith, low) in found_later p ps o differ ∙ none_before o ps all.1)
+none_before o (p ∷ ps) all = (let low : o < p.octet = all.0 in let differ : p.octet ≢ o = omega (arith, low) in
+    found_later p ps o differ ∙ none_before o ps all.1)
 
 further : (x y z : PositionV) → x.octet < y.octet → y.octet < z.octet → x.octet < z.octet
 further x y z low high = omega (arith, low, high)
@@ -115,23 +117,30 @@ all_above o p (q ∷ ps) low rises =
     let high : o < q.octet = omega (arith, low, next) in
     (high, all_above o q ps high rises.1)
 
-first_same : (p q : PositionV) (ps qs : List PositionV) → Rises (λ x y. x.octet < y.octet) (p ∷ ps) → Rises (λ x y. x.octet < y.octet) (q ∷ qs) → ((o : ℕ) → find (λ r. r.octet == o) (p ∷ ps) ≡ find (λ r. r.octet == o) (q ∷ qs)) → p ≡ q
+first_same : (p q : PositionV) (ps qs : List PositionV) → Rises (λ x y. x.octet < y.octet) (p ∷ ps)
+    → Rises (λ x y. x.octet < y.octet) (q ∷ qs)
+    → ((o : ℕ) → find (λ r. r.octet == o) (p ∷ ps) ≡ find (λ r. r.octet == o) (q ∷ qs)) → p ≡ q
 first_same p q ps qs rises rises' same = elim (cases_order p.octet q.octet) [
   | inl is ↦ (
       let found : Some p ≡ Some q = sym (found_here p ps p.octet refl) ∙ same p.octet ∙ found_here q qs p.octet (sym is) in cc
       )
   | inr apart ↦ elim apart [
     | inl less ↦ (
-        let wrong : Some p ≡ None = sym (found_here p ps p.octet refl) ∙ same p.octet ∙ none_before p.octet (q ∷ qs) (less, all_above p.octet q qs less rises') in absurd (cc)
+        let wrong : Some p ≡ None = sym (found_here p ps p.octet refl)
+        ∙ same p.octet ∙ none_before p.octet (q ∷ qs) (less, all_above p.octet q qs less rises') in absurd (cc)
         )
     | inr more ↦ (
-        let wrong : None ≡ Some q = sym (none_before q.octet (p ∷ ps) (more, all_above q.octet p ps more rises)) ∙ same q.octet ∙ found_here q qs q.octet refl in absurd (cc)
+        let wrong : None ≡ Some q = sym (none_before q.octet (p ∷ ps) (more, all_above q.octet p ps more rises))
+        ∙ same q.octet ∙ found_here q qs q.octet refl in absurd (cc)
         )
   ]
 ]
 
 -- behind a position none is found where it is, and elsewhere the same as with it
-later_same : (p q : PositionV) (ps qs : List PositionV) (o : ℕ) (b : Bool) → (p.octet == o) ≡ b → p ≡ q → Rises (λ x y. x.octet < y.octet) (p ∷ ps) → Rises (λ x y. x.octet < y.octet) (q ∷ qs) → find (λ r. r.octet == o) (p ∷ ps) ≡ find (λ r. r.octet == o) (q ∷ qs) → find (λ r. r.octet == o) ps ≡ find (λ r. r.octet == o) qs
+later_same : (p q : PositionV) (ps qs : List PositionV) (o : ℕ) (b : Bool)
+    → (p.octet == o) ≡ b → p ≡ q → Rises (λ x y. x.octet < y.octet) (p ∷ ps)
+    → Rises (λ x y. x.octet < y.octet) (q ∷ qs) → find (λ r. r.octet == o) (p ∷ ps) ≡ find (λ r. r.octet == o)
+    (q ∷ qs) → find (λ r. r.octet == o) ps ≡ find (λ r. r.octet == o) qs
 later_same p q ps qs o true is first rises rises' same =
     let here : p.octet ≡ o = grind (arith, nat_tests, is) in
     let there : q.octet ≡ o = ap (λ (r : PositionV). r.octet) (sym first) ∙ here in
@@ -143,7 +152,8 @@ later_same p q ps qs o false is first rises rises' same =
     sym (found_later p ps o differ) ∙ same ∙ found_later q qs o differ'
 
 -- positions that rise are told by which is found at each octet position
-pub positions_same : (ps qs : List PositionV) → Rises (λ p q. p.octet < q.octet) ps → Rises (λ p q. p.octet < q.octet) qs → ((o : ℕ) → find (λ p. p.octet == o) ps ≡ find (λ p. p.octet == o) qs) → ps ≡ qs
+pub positions_same : (ps qs : List PositionV) → Rises (λ p q. p.octet < q.octet) ps → Rises (λ p q. p.octet < q.octet)
+    qs → ((o : ℕ) → find (λ p. p.octet == o) ps ≡ find (λ p. p.octet == o) qs) → ps ≡ qs
 positions_same [] [] rises rises' same = refl
 positions_same [] (q ∷ qs) rises rises' same =
     let wrong : None ≡ Some q = same q.octet ∙ found_here q qs q.octet refl in absurd (cc)

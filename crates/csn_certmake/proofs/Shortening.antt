@@ -11,7 +11,9 @@ use Rattle.csn_good.specs.Patterns.{shortened}
 use Rattle.csn_certmake.specs.Patterns.{joined}
 
 -- the first twelve of some marks, whole only where these are all, are the marks shortened
-shortened_by : (marks : List Mark) (whole told : Bool) (count : ℕ) (test : Bool) → nat_le (length marks) MOST_MARKS ≡ test → count ≡ min (length marks) MOST_MARKS → told ≡ (whole && test) → record { marks = take count marks; whole = told } ≡ shortened marks whole
+shortened_by : (marks : List Mark) (whole told : Bool) (count : ℕ) (test : Bool)
+    → nat_le (length marks) MOST_MARKS ≡ test → count ≡ min (length marks) MOST_MARKS → told ≡ (whole && test)
+    → record { marks = take count marks; whole = told } ≡ shortened marks whole
 shortened_by marks whole told count true low is same =
     let small : length marks ≤ 12 = grind (arith, nat_tests, low) in
     let all : take count marks ≡ marks = take_all count marks (omega (arith, is, small)) in
@@ -23,7 +25,8 @@ shortened_by marks whole told count true low is same =
 shortened_by marks whole told count false low is same =
     let big : 12 < length marks = grind (arith, nat_tests, low) in
     let twelve : count ≡ 12 = omega (arith, is, big) in
-    rw low (ap (λ (n : ℕ). record { marks = take n marks; whole = told }) twelve ∙ ap (λ (w : Bool). record { marks = take 12 marks; whole = w }) (same ∙ and_false whole))
+    rw low (ap (λ (n : ℕ). record { marks = take n marks; whole = told }) twelve ∙ ap
+    (λ (w : Bool). record { marks = take 12 marks; whole = w }) (same ∙ and_false whole))
   where
     and_false : (b : Bool) → (b && false) ≡ false
     and_false true = refl
@@ -39,11 +42,16 @@ same_tests a b c d false true first second there back =
 same_tests a b c d false false first second there back = refl
 
 -- the marks of one pattern and then of another, as many as there is room for
-pub joined_is : (first rest : PatternV) (room count : ℕ) (whole : Bool) → length first.marks ≤ 12 → room ≡ 12 - length first.marks → count ≡ min (length rest.marks) room → whole ≡ (rest.whole && nat_le (length rest.marks) room) → record { marks = first.marks ++ take count rest.marks; whole = whole } ≡ joined first rest
+pub joined_is : (first rest : PatternV) (room count : ℕ) (whole : Bool)
+    → length first.marks ≤ 12 → room ≡ 12 - length first.marks → count ≡ min (length rest.marks) room
+    → whole ≡ (rest.whole && nat_le (length rest.marks) room)
+    → record { marks = first.marks ++ take count rest.marks; whole = whole } ≡ joined first rest
 joined_is first rest room count whole few is_room is same =
     let all : List Mark = first.marks ++ rest.marks in
     let long : length all ≡ length first.marks + length rest.marks = length-append first.marks rest.marks in
     let test : nat_le (length rest.marks) room ≡ nat_le (length all) 12 =
-    same_tests (length rest.marks) room (length all) 12 (nat_le (length rest.marks) room) (nat_le (length all) 12) refl refl (λ low. omega (arith, low, long, is_room, few)) (λ low. omega (arith, low, long, is_room, few)) in
+    same_tests (length rest.marks) room (length all) 12 (nat_le (length rest.marks) room) (nat_le (length all) 12)
+    refl refl (λ low. omega (arith, low, long, is_room, few)) (λ low. omega (arith, low, long, is_room, few)) in
     ap (λ (m : List Mark). record { marks = m; whole = whole }) (sym (take-append-add first.marks rest.marks count))
-    ∙ shortened_by all rest.whole whole (length first.marks + count) (nat_le (length all) 12) refl (omega (arith, is, long, is_room, few)) (same ∙ ap (λ b. rest.whole && b) test)
+    ∙ shortened_by all rest.whole whole (length first.marks + count) (nat_le (length all) 12) refl
+    (omega (arith, is, long, is_room, few)) (same ∙ ap (λ b. rest.whole && b) test)

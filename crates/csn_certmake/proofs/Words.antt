@@ -90,7 +90,10 @@ pub record LeftOf (marks : List Mark) (whole : Bool) (x : List ℕ) (mark : Bool
   pub stands : mark_bits marks word ≡ true
   pub left : Cut 12 word whole x mark
 
-left_by : (marks : List Mark) (whole : Bool) (x : List ℕ) (mark : Bool) (test : Bool) → nat_le (length marks) 12 ≡ test → Says (if test then record { marks = marks; whole = whole } else record { marks = take 12 marks; whole = false }) x mark → LeftOf marks whole x mark
+left_by : (marks : List Mark) (whole : Bool) (x : List ℕ) (mark : Bool) (test : Bool)
+    → nat_le (length marks) 12 ≡ test
+    → Says (if test then record { marks = marks; whole = whole } else record { marks = take 12 marks; whole = false })
+    x mark → LeftOf marks whole x mark
 left_by marks whole x mark true is says =
     let size = size_of marks x says.bits in
     let short : length x ≤ 12 = grind (arith, nat_tests) in
@@ -141,7 +144,8 @@ any_word (suc n) (b ∷ x) holds =
     let later = any_word n x both.1 in
     (ap suc later.0, (any_is b both.0, later.1))
 
-pub spare_word : (reading : Reading) (s : Symbol) (o : ℕ) (x : List ℕ) → mark_bits (spare_mark reading s o ∷ []) x ≡ true → (length x ≡ 1) × IsSpare reading s o x
+pub spare_word : (reading : Reading) (s : Symbol) (o : ℕ) (x : List ℕ)
+    → mark_bits (spare_mark reading s o ∷ []) x ≡ true → (length x ≡ 1) × IsSpare reading s o x
 spare_word reading s o [] holds = absurd (cc)
 spare_word reading s o (a ∷ (b ∷ x)) holds =
     let wrong = (both_true (marks_bit (spare_mark reading s o) a) (mark_bits [] (b ∷ x)) holds).1 in absurd (cc)

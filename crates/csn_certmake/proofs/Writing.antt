@@ -39,12 +39,14 @@ new_one count digits is =
 same_answer : {P : Type 0} (b c : Bool) → b ≡ c → IsTrue c ↔ P → IsTrue b ↔ P
 same_answer {P} b c same holds = subst (λ (x : Bool). IsTrue x ↔ P) (sym same) holds
 
-pub digit_more : (count next digits : ℕ) (is : Bool) (P : ℕ → Type 0) → next ≡ suc count → DigitsAre count digits P → IsTrue is ↔ P count → DigitsAre next (with_digit digits is) P
+pub digit_more : (count next digits : ℕ) (is : Bool) (P : ℕ → Type 0) → next ≡ suc count → DigitsAre count digits P
+    → IsTrue is ↔ P count → DigitsAre next (with_digit digits is) P
 digit_more count next digits is P step each here =
     subst (λ (n : ℕ). DigitsAre n (with_digit digits is) P) (sym step)
     (λ place low.
     ⊎_elim
-    (λ (before : place < count). same_answer (has_digit (suc count) (with_digit digits is) place) (has_digit count digits place) (before_new count digits is place before) (each place before))
+    (λ (before : place < count). same_answer (has_digit (suc count) (with_digit digits is) place)
+    (has_digit count digits place) (before_new count digits is place before) (each place before))
     (λ (past : count ≤ place).
     let at : count ≡ place = omega arith in
     subst (λ (k : ℕ). IsTrue (has_digit (suc count) (with_digit digits is) k) ↔ P k) at
@@ -75,7 +77,11 @@ at_place P octet k low =
 placed : (P : ℕ → Option ℕ → Type 0) (octet k : ℕ) (is : Bool) → k < 3 → IsTrue is ↔ P octet (sign_of k) → IsTrue is ↔ AtPlace P (3 * octet + k)
 placed P octet k is low holds = (λ true. (at_place P octet k low).1 (holds.0 true), λ there. holds.1 ((at_place P octet k low).0 there))
 
-pub three_more : (P : ℕ → Option ℕ → Type 0) (octet next digits : ℕ) (zero one end : Bool) → next ≡ octet + 1 → DigitsAre (3 * octet) digits (AtPlace P) → IsTrue zero ↔ P octet (Some 0) → IsTrue one ↔ P octet (Some 1) → IsTrue end ↔ P octet None → DigitsAre (3 * next) (with_digit (with_digit (with_digit digits zero) one) end) (AtPlace P)
+pub three_more : (P : ℕ → Option ℕ → Type 0) (octet next digits : ℕ) (zero one end : Bool)
+    → next ≡ octet + 1 → DigitsAre (3 * octet) digits (AtPlace P) → IsTrue zero ↔ P octet (Some 0)
+    → IsTrue one ↔ P octet (Some 1)
+    → IsTrue end ↔ P octet None → DigitsAre (3 * next) (with_digit (with_digit (with_digit digits zero) one) end)
+    (AtPlace P)
 three_more P octet next digits zero one end step each is_zero is_one is_end =
     let none : 3 * octet ≡ 3 * octet + 0 = omega arith in
     digit_more (3 * octet + 2) (3 * next) (with_digit (with_digit digits zero) one) end (AtPlace P) (omega arith)
@@ -86,13 +92,15 @@ three_more P octet next digits zero one end step each is_zero is_one is_end =
     (placed P octet 1 one (omega arith) is_one))
     (placed P octet 2 end (omega arith) is_end)
 
-pub small_three : (octet next digits : ℕ) (zero one end : Bool) → next ≡ octet + 1 → digits < 2 ^ (3 * octet) → with_digit (with_digit (with_digit digits zero) one) end < 2 ^ (3 * next)
+pub small_three : (octet next digits : ℕ) (zero one end : Bool) → next ≡ octet + 1 → digits < 2 ^ (3 * octet)
+    → with_digit (with_digit (with_digit digits zero) one) end < 2 ^ (3 * next)
 small_three octet next digits zero one end step small =
     small_more (3 * octet + 2) (3 * next) (with_digit (with_digit digits zero) one) end (omega arith)
     (small_more (3 * octet + 1) (3 * octet + 2) (with_digit digits zero) one (omega arith)
     (small_more (3 * octet) (3 * octet + 1) digits zero (omega arith) small))
 
-told : (P : ℕ → Option ℕ → Type 0) (digits o k : ℕ) → DigitsAre 24 digits (AtPlace P) → o ≤ 7 → k < 3 → IsTrue (has_digit 24 digits (3 * o + k)) ↔ P o (sign_of k)
+told : (P : ℕ → Option ℕ → Type 0) (digits o k : ℕ) → DigitsAre 24 digits (AtPlace P)
+    → o ≤ 7 → k < 3 → IsTrue (has_digit 24 digits (3 * o + k)) ↔ P o (sign_of k)
 told P digits o k each low few =
     let holds = each (3 * o + k) (omega arith) in (
       λ true. (at_place P o k few).0 (holds.0 true),

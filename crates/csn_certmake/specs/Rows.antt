@@ -1,6 +1,7 @@
 -- Rows of patterns for all nodes of a description, and what a certificate that is made of them claims, as the private
 -- functions say it. No public contract cites these words.
-use Rattle.std.specs.Prelude.{◌≡◌, ℕ, ◌<◌, ◌≤◌, ◌↔◌, Bool, true, false, List, [], ◌∷◌, ◌++◌, length, slice_get, slice_index_or, find, ◌==◌, Option, Some, None, IsTrue}
+use Rattle.std.specs.Prelude.{◌≡◌, ℕ, ◌<◌, ◌≤◌, ◌↔◌, Bool, true, false, List, [], ◌∷◌, ◌++◌, length, slice_get}
+use Rattle.std.specs.Prelude.{slice_index_or, find, ◌==◌, Option, Some, None, IsTrue}
 use Rattle.std.specs.Ordering.{nat_cmp}
 use Rattle.std.specs.FinSet as set
 use Rattle.csn_desc.specs.declared.node.Node.{Node}
@@ -80,4 +81,5 @@ pub record AddsNode (look : LookV) (reach : ReachV) (row : List (List PatternV))
 -- the certificate has for each row the claims of the node with the same number
 pub record TellsNodes (look : LookV) (reach : ReachV) (rows : List (List (List PatternV))) (c : List NodeV) : Type 0 where
   pub same : length c ≡ length rows
-  pub nodes : (d : DescV) → IsKnown d look reach → (i : ℕ) → i < length rows → (n : NodeV) × (slice_get c i ≡ Some n) × TellsNode d (slice_index_or rows i []) i n
+  pub nodes : (d : DescV) → IsKnown d look reach → (i : ℕ) → i < length rows → (n : NodeV) × (slice_get c i ≡ Some n)
+      × TellsNode d (slice_index_or rows i []) i n

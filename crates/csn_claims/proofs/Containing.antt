@@ -17,14 +17,28 @@ use Rattle.csn_look.proofs.Meaning.ShapeFacts.{CountIs, NodeIs, Shaped}
 use Rattle.csn_look.proofs.Meaning.EndsFacts.{ends}
 use Rattle.csn_look.proofs.Meaning.KeyMeant.{key_meant}
 use Rattle.csn_claims.specs.Claims.{Claims}
-use Rattle.csn_claims.specs.Nullable.{NodeNullable, AllNullable, nullable_null, nullable_rest, nullable_many, nullable_trunc, nullable_field, nullable_times, nullable_no_times, nullable_window, nullable_seq, nullable_choice, nullable_named, all_end, all_next}
-use Rattle.csn_claims.specs.Ends.{NodeEnds, PartsEnd, TimesEnd, ManyEnd, LeadEnd, ends_lits, ends_spare, ends_null, ends_pad, ends_rest, ends_field, ends_window, ends_seq, ends_choice, ends_times, ends_counted, ends_many, ends_trunc, ends_named}
+use Rattle.csn_claims.specs.Nullable.{NodeNullable, AllNullable, nullable_null, nullable_rest, nullable_many}
+use Rattle.csn_claims.specs.Nullable.{nullable_trunc, nullable_field, nullable_times, nullable_no_times}
+use Rattle.csn_claims.specs.Nullable.{nullable_window, nullable_seq, nullable_choice, nullable_named, all_end}
+use Rattle.csn_claims.specs.Nullable.{all_next}
+use Rattle.csn_claims.specs.Ends.{NodeEnds, PartsEnd, TimesEnd, ManyEnd, LeadEnd, ends_lits, ends_spare, ends_null}
+use Rattle.csn_claims.specs.Ends.{ends_pad, ends_rest, ends_field, ends_window, ends_seq, ends_choice, ends_times}
+use Rattle.csn_claims.specs.Ends.{ends_counted, ends_many, ends_trunc, ends_named}
 use Rattle.csn_claims.specs.Ends as claimed
-use Rattle.csn_claims.specs.Starts.{NodeStarts, PartsStart, starts_lits, starts_spare, starts_pad, starts_field, starts_rest, starts_seq, starts_trunc, starts_choice, starts_times, starts_many, starts_window, starts_named, starts_here, starts_later}
-use Rattle.csn_claims.specs.Keys.{NodeKeys, PartsKeys, TimesKeys, keys_lits, keys_spare, keys_field, keys_pad, keys_null, keys_rest, keys_many, keys_trunc, keys_window, keys_counted_field, keys_counted_times, keys_seq, keys_times, keys_choice, keys_named, parts_none, parts_cut, parts_whole, times_none, times_cut, times_whole}
-use Rattle.csn_claims.specs.Reached.{PartReached, reached_seq, reached_trunc, reached_choice, reached_window, reached_named, reached_times, reached_counted, reached_many}
+use Rattle.csn_claims.specs.Starts.{NodeStarts, PartsStart, starts_lits, starts_spare, starts_pad, starts_field}
+use Rattle.csn_claims.specs.Starts.{starts_rest, starts_seq, starts_trunc, starts_choice, starts_times, starts_many}
+use Rattle.csn_claims.specs.Starts.{starts_window, starts_named, starts_here, starts_later}
+use Rattle.csn_claims.specs.Keys.{NodeKeys, PartsKeys, TimesKeys, keys_lits, keys_spare, keys_field, keys_pad}
+use Rattle.csn_claims.specs.Keys.{keys_null, keys_rest, keys_many, keys_trunc, keys_window, keys_counted_field}
+use Rattle.csn_claims.specs.Keys.{keys_counted_times, keys_seq, keys_times, keys_choice, keys_named, parts_none}
+use Rattle.csn_claims.specs.Keys.{parts_cut, parts_whole, times_none, times_cut, times_whole}
+use Rattle.csn_claims.specs.Reached.{PartReached, reached_seq, reached_trunc, reached_choice, reached_window}
+use Rattle.csn_claims.specs.Reached.{reached_named, reached_times, reached_counted, reached_many}
 use Rattle.csn_claims.specs.Holding.{IsPart, Holds}
-use Rattle.csn_claims.proofs.Reaching.{PartsReached, TurnsReached, FreeReached, first_part, later_parts, front_parts, first_turn, later_turns, first_free, later_free, seq_reached, lead_reached, choice_reached, window_reached, named_reached, free_reached, counted_reached, turns_reached}
+use Rattle.csn_claims.proofs.Reaching.{PartsReached, TurnsReached, FreeReached, first_part, later_parts, front_parts}
+use Rattle.csn_claims.proofs.Reaching.{first_turn, later_turns, first_free, later_free, seq_reached, lead_reached}
+use Rattle.csn_claims.proofs.Reaching.{choice_reached, window_reached, named_reached, free_reached, counted_reached}
+use Rattle.csn_claims.proofs.Reaching.{turns_reached}
 
 module _ (d : DescV) (most : ℕ) (claims : Claims) (holds : Holds d most claims) where
   -- ---- which nodes may have no bits
@@ -94,22 +108,36 @@ module _ (d : DescV) (most : ℕ) (claims : Claims) (holds : Holds d most claims
         let first = has_ends (first_part claims reached) h in claimed.lead_next middle first (lead_ends (later_parts claims reached first) others)
 
   -- parts begin behind those before them
-  pub parts_behind : {before rest : List ℕ} {from o : ℕ} → PartsReached claims (before ++ rest) from → end.PartsEnd d before from o → PartsReached claims rest o
+  pub parts_behind : {before rest : List ℕ} {from o : ℕ} → PartsReached claims (before ++ rest) from
+      → end.PartsEnd d before from o → PartsReached claims rest o
   parts_behind {rest = rest} reached (end.parts_end is) = let P : ℕ → Type 0 = λ p. PartsReached claims rest p in subst P (sym is) reached
   parts_behind reached (end.parts_next middle h others) = parts_behind (later_parts claims reached (has_ends (first_part claims reached) h)) others
 
   -- ---- where they begin
 
-  part_reached : {n : Node} {before : List ℕ} {i from o : ℕ} (k : ℕ) (after : List ℕ) → IsPart d k n before i after → IsTrue (claims.reached k from) → reach.PartReached d n before i from o → PartReached claims n before i from o
-  part_reached {i = i} k after is above (reach.reached_seq h) = reached_seq (parts_ends (front_parts claims i after is.split (seq_reached d most claims holds is.at above)) h)
-  part_reached {i = i} k after is above (reach.reached_trunc h) = reached_trunc (parts_ends (front_parts claims i after is.split (lead_reached d most claims holds is.at above)) h)
+  part_reached : {n : Node} {before : List ℕ} {i from o : ℕ} (k : ℕ) (after : List ℕ)
+      → IsPart d k n before i after → IsTrue (claims.reached k from) → reach.PartReached d n before i from o
+      → PartReached claims n before i from o
+  part_reached {i = i} k after is above (reach.reached_seq h) =
+      reached_seq (parts_ends (front_parts claims i after is.split (seq_reached d most claims holds is.at above)) h)
+  part_reached {i = i} k after is above (reach.reached_trunc h) =
+      reached_trunc (parts_ends (front_parts claims i after is.split (lead_reached d most claims holds is.at above))
+      h)
   part_reached k after is above (reach.reached_choice same) = reached_choice same
   part_reached k after is above (reach.reached_window same) = reached_window same
   part_reached k after is above (reach.reached_named same) = reached_named same
   part_reached {before = before} {i = i} {from = from} k after is above (reach.reached_times {n = n} {part = part} m less h) =
-      reached_times m less (times_ends (record { each = λ l p fewer e. holds.reached k from i p (Times (Fixed n) part) before after is above (reached_times l (omega arith) e) }) h)
+      reached_times m less
+      (times_ends (record {
+        each = λ l p fewer e. holds.reached k from i p (Times (Fixed n) part)
+            before after is above (reached_times l (omega arith) e);
+      }) h)
   part_reached {before = before} {i = i} {from = from} k after is above (reach.reached_counted {m = m} {field = field} {c = c} {part = part} h) =
-      reached_counted (many_ends (record { each = λ p e. holds.reached k from i p (Times (Counted m field c) part) before after is above (reached_counted e) }) h)
+      reached_counted
+      (many_ends (record {
+        each = λ p e. holds.reached k from i p (Times (Counted m field c) part)
+            before after is above (reached_counted e);
+      }) h)
   part_reached {before = before} {i = i} {from = from} k after is above (reach.reached_many {part = part} h) =
       reached_many (many_ends (record { each = λ p e. holds.reached k from i p (Many part) before after is above (reached_many e) }) h)
 
@@ -127,7 +155,8 @@ module _ (d : DescV) (most : ℕ) (claims : Claims) (shaped : Shaped d) (holds :
   -- ---- with which bits they may begin
 
   -- the first turn of a repetition by number
-  turn_begins : {k i o : ℕ} (count : Count) → CountIs d.nodes count → slice_get d.nodes k ≡ Some (Times count i) → IsTrue (claims.reached k o) → IsTrue (claims.reached i o)
+  turn_begins : {k i o : ℕ} (count : Count) → CountIs d.nodes count → slice_get d.nodes k ≡ Some (Times count i)
+      → IsTrue (claims.reached k o) → IsTrue (claims.reached i o)
   turn_begins (Fixed n) some at reached = first_turn claims some (turns_reached d most claims holds at reached)
   turn_begins (Counted m field c) is at reached = first_free claims (counted_reached d most claims holds at reached)
 
@@ -135,7 +164,8 @@ module _ (d : DescV) (most : ℕ) (claims : Claims) (shaped : Shaped d) (holds :
     pub has_start : {i o bit : ℕ} → IsTrue (claims.reached i o) → start.InStart d i o bit → IsTrue (claims.starts i o bit)
     has_start {i} {o} {bit} reached (start.starts_at n at h) = holds.starts i o bit n at reached (node_starts (shaped.node i n at) at reached h)
 
-    node_starts : {n : Node} {i o bit : ℕ} → NodeIs d.nodes n → slice_get d.nodes i ≡ Some n → IsTrue (claims.reached i o) → start.NodeStarts d n o bit → NodeStarts d claims n o bit
+    node_starts : {n : Node} {i o bit : ℕ} → NodeIs d.nodes n → slice_get d.nodes i ≡ Some n
+        → IsTrue (claims.reached i o) → start.NodeStarts d n o bit → NodeStarts d claims n o bit
     node_starts is at reached (start.starts_lits same) = starts_lits same
     node_starts is at reached (start.starts_spare h) = starts_spare h
     node_starts is at reached (start.starts_pad h) = starts_pad h
@@ -169,7 +199,8 @@ module _ (d : DescV) (most : ℕ) (claims : Claims) (shaped : Shaped d) (holds :
     pub has_key : {i o : ℕ} {x : List ℕ} {mark : Bool} → o < 8 → IsTrue (claims.reached i o) → key.InKeys d most i o x mark → IsTrue (claims.keys i o x mark)
     has_key {i} {o} {x} {mark} low reached (key.keys_at n at h) = holds.keys i o x mark n at reached (node_keys low at reached h)
 
-    node_keys : {n : Node} {i o : ℕ} {x : List ℕ} {mark : Bool} → o < 8 → slice_get d.nodes i ≡ Some n → IsTrue (claims.reached i o) → key.NodeKeys d most n o x mark → NodeKeys d most claims n o x mark
+    node_keys : {n : Node} {i o : ℕ} {x : List ℕ} {mark : Bool} → o < 8 → slice_get d.nodes i ≡ Some n
+        → IsTrue (claims.reached i o) → key.NodeKeys d most n o x mark → NodeKeys d most claims n o x mark
     node_keys low at reached (key.keys_lits c) = keys_lits c
     node_keys low at reached (key.keys_spare w one spare c) = keys_spare w one spare c
     node_keys low at reached (key.keys_field w wide are c) = keys_field w wide are c
@@ -186,7 +217,8 @@ module _ (d : DescV) (most : ℕ) (claims : Claims) (shaped : Shaped d) (holds :
     node_keys low at reached (key.keys_choice j part h) = keys_choice j part (has_key low (choice_reached d most claims holds j at part reached) h)
     node_keys low at reached (key.keys_named h) = keys_named (has_key low (named_reached d most claims holds at reached) h)
 
-    parts_keys : {parts : List ℕ} {o : ℕ} {x : List ℕ} {mark : Bool} → o < 8 → PartsReached claims parts o → key.PartsKeys d most parts o x mark → PartsKeys most claims parts o x mark
+    parts_keys : {parts : List ℕ} {o : ℕ} {x : List ℕ} {mark : Bool} → o < 8 → PartsReached claims parts o
+        → key.PartsKeys d most parts o x mark → PartsKeys most claims parts o x mark
     parts_keys low reached (key.parts_none is mark) = parts_none is mark
     parts_keys low reached (key.parts_cut h mark) = parts_cut (has_key low (first_part claims reached) h) mark
     parts_keys low reached (key.parts_whole w1 w2 rest h others c) =
@@ -194,7 +226,8 @@ module _ (d : DescV) (most : ℕ) (claims : Claims) (shaped : Shaped d) (holds :
         let later = later_parts claims reached (key_ends low here h) in
         parts_whole w1 w2 rest (has_key low here h) (parts_keys (omega arith) later others) c
 
-    times_keys : {n i o : ℕ} {x : List ℕ} {mark : Bool} → o < 8 → TurnsReached claims n i o → key.TimesKeys d most n i o x mark → TimesKeys most claims n i o x mark
+    times_keys : {n i o : ℕ} {x : List ℕ} {mark : Bool} → o < 8 → TurnsReached claims n i o
+        → key.TimesKeys d most n i o x mark → TimesKeys most claims n i o x mark
     times_keys low reached (key.times_none over is mark) = times_none over is mark
     times_keys low reached (key.times_cut m over h mark) = times_cut m over (has_key low (first_turn claims (omega arith) reached) h) mark
     times_keys low reached (key.times_whole m over w1 w2 rest h others c) =

@@ -17,7 +17,9 @@ use Rattle.csn_claims.proofs.Clear.{Lies, Stands, Clear}
 
 module _ (d : DescV) where
   -- where a turn more is left, it begins behind those before it
-  turn_again : {k i left from o : ℕ} {count : Count} {v : Values} {b : List ℕ} {ts : Trees} (a : ℕ) (r : List ℕ) → b ≡ a ∷ r → slice_get d.nodes k ≡ Some (Times count i) → Reached d k from → Turn d count i left from (o % 8) → TimesMean d left i o v b ts → Reached d i (o % 8)
+  turn_again : {k i left from o : ℕ} {count : Count} {v : Values} {b : List ℕ} {ts : Trees} (a : ℕ) (r : List ℕ)
+      → b ≡ a ∷ r → slice_get d.nodes k ≡ Some (Times count i) → Reached d k from → Turn d count i left from (o % 8)
+      → TimesMean d left i o v b ts → Reached d i (o % 8)
   turn_again a r is at reached turn (times_end over nothing) = absurd (cc)
   turn_again a r is at reached turn (times_next m over b1 b2 cut h others) = turn_reached d at reached over turn
 
@@ -54,39 +56,93 @@ module _ (Follow : ℕ → ℕ → ℕ → Type 0) where
 
 module _ (d : DescV) (most : ℕ) (Follow : ℕ → ℕ → ℕ → Type 0) (clear : Clear d most Follow) where
   -- the later parts, from the place where the part ends, and then what stands behind the node
-  pub seq_stands : {k i from o : ℕ} {v : Values} {parts after b2 x : List ℕ} {ts : Trees} (before b1 : List ℕ) → slice_get d.nodes k ≡ Some (Seq parts) → parts ≡ before ++ i ∷ after → Reached d k from → PartsEnd d before from (o % 8) → Lies d i (o % 8) ((o + length b1) % 8) → FitWidths d v → PartsMean d after (o + length b1) v b2 ts → Stands Follow k (o + length b1) b2 x → Stands Follow i o b1 (b2 ++ x)
+  pub seq_stands : {k i from o : ℕ} {v : Values} {parts after b2 x : List ℕ} {ts : Trees} (before b1 : List ℕ)
+      → slice_get d.nodes k ≡ Some (Seq parts) → parts ≡ before ++ i ∷ after → Reached d k from
+      → PartsEnd d before from (o % 8) → Lies d i (o % 8) ((o + length b1) % 8)
+      → FitWidths d v → PartsMean d after (o + length b1) v b2 ts → Stands Follow k (o + length b1) b2 x
+      → Stands Follow i o b1 (b2 ++ x)
   seq_stands {k} {i} {o = o} {parts = parts} {after = after} {b2 = []} before b1 at is reached ended lies widths h s =
-      record { behind = λ bit rest e. clear.seq_behind k i (o % 8) ((o + length b1) % 8) bit parts before after (record { at = at; split = is }) lies (parts_nullable d clear.shaped h refl) (behind_none Follow (o + length b1) bit (s.behind bit rest e)) }
+      record {
+        behind = λ bit rest e. clear.seq_behind k i (o % 8) ((o + length b1) % 8) bit parts before after
+            (record { at = at; split = is }) lies (parts_nullable d clear.shaped h refl)
+            (behind_none Follow (o + length b1) bit (s.behind bit rest e));
+      }
   seq_stands {k} {i} {from} {o} {parts = parts} {after = after} {b2 = a ∷ r} before b1 at is reached ended lies widths h s =
-      record { behind = λ bit rest e. let same : a ∷ r ≡ bit ∷ r = cc in clear.seq_later k i from (o % 8) ((o + length b1) % 8) bit parts before after (record { at = at; split = is }) reached ended lies (parts_start d clear.shaped bit r same widths h) }
+      record {
+        behind = λ bit rest e. let same : a ∷ r ≡ bit ∷ r = cc in clear.seq_later k i from (o % 8)
+            ((o + length b1) % 8) bit parts before after (record { at = at; split = is }) reached ended lies
+            (parts_start d clear.shaped bit r same widths h);
+      }
 
-  pub lead_stands : {k i from o : ℕ} {v : Values} {parts after b2 x : List ℕ} {ts : Trees} (before b1 : List ℕ) → slice_get d.nodes k ≡ Some (Trunc parts) → parts ≡ before ++ i ∷ after → Reached d k from → PartsEnd d before from (o % 8) → Lies d i (o % 8) ((o + length b1) % 8) → FitWidths d v → LeadMean d after (o + length b1) v b2 ts → Stands Follow k (o + length b1) b2 x → Stands Follow i o b1 (b2 ++ x)
+  pub lead_stands : {k i from o : ℕ} {v : Values} {parts after b2 x : List ℕ} {ts : Trees} (before b1 : List ℕ)
+      → slice_get d.nodes k ≡ Some (Trunc parts) → parts ≡ before ++ i ∷ after → Reached d k from
+      → PartsEnd d before from (o % 8) → Lies d i (o % 8) ((o + length b1) % 8)
+      → FitWidths d v → LeadMean d after (o + length b1) v b2 ts → Stands Follow k (o + length b1) b2 x
+      → Stands Follow i o b1 (b2 ++ x)
   lead_stands {k} {i} {o = o} {parts = parts} {after = after} {b2 = []} before b1 at is reached ended lies widths h s =
-      record { behind = λ bit rest e. clear.trunc_behind k i (o % 8) ((o + length b1) % 8) bit parts before after (record { at = at; split = is }) lies (behind_none Follow (o + length b1) bit (s.behind bit rest e)) }
+      record {
+        behind = λ bit rest e. clear.trunc_behind k i (o % 8) ((o + length b1) % 8) bit parts before after
+            (record { at = at; split = is }) lies (behind_none Follow (o + length b1) bit (s.behind bit rest e));
+      }
   lead_stands {k} {i} {from} {o} {parts = parts} {after = after} {b2 = a ∷ r} before b1 at is reached ended lies widths h s =
-      record { behind = λ bit rest e. let same : a ∷ r ≡ bit ∷ r = cc in clear.trunc_later k i from (o % 8) ((o + length b1) % 8) bit parts before after (record { at = at; split = is }) reached ended lies (lead_start d clear.shaped bit r same widths h) }
+      record {
+        behind = λ bit rest e. let same : a ∷ r ≡ bit ∷ r = cc in clear.trunc_later k i from (o % 8)
+            ((o + length b1) % 8) bit parts before after (record { at = at; split = is }) reached ended lies
+            (lead_start d clear.shaped bit r same widths h);
+      }
 
-  pub last_stands : {k i o : ℕ} {parts b x : List ℕ} (before after : List ℕ) → slice_get d.nodes k ≡ Some (Trunc parts) → parts ≡ before ++ i ∷ after → Lies d i (o % 8) ((o + length b) % 8) → Stands Follow k o b x → Stands Follow i o b x
+  pub last_stands : {k i o : ℕ} {parts b x : List ℕ} (before after : List ℕ)
+      → slice_get d.nodes k ≡ Some (Trunc parts) → parts ≡ before ++ i ∷ after → Lies d i (o % 8) ((o + length b) % 8)
+      → Stands Follow k o b x → Stands Follow i o b x
   last_stands {k} {i} {o} {parts} {b} before after at is lies s =
-      record { behind = λ bit rest e. clear.trunc_behind k i (o % 8) ((o + length b) % 8) bit parts before after (record { at = at; split = is }) lies (s.behind bit rest e) }
+      record {
+        behind = λ bit rest e. clear.trunc_behind k i (o % 8) ((o + length b) % 8) bit parts before after
+            (record { at = at; split = is }) lies (s.behind bit rest e);
+      }
 
-  pub times_stands : {k i left from o : ℕ} {count : Count} {v : Values} {b2 x : List ℕ} {ts : Trees} (b1 : List ℕ) → slice_get d.nodes k ≡ Some (Times count i) → Reached d k from → Turn d count i left from ((o + length b1) % 8) → Lies d i (o % 8) ((o + length b1) % 8) → FitWidths d v → TimesMean d left i (o + length b1) v b2 ts → Stands Follow k (o + length b1) b2 x → Stands Follow i o b1 (b2 ++ x)
+  pub times_stands : {k i left from o : ℕ} {count : Count} {v : Values} {b2 x : List ℕ} {ts : Trees} (b1 : List ℕ)
+      → slice_get d.nodes k ≡ Some (Times count i) → Reached d k from → Turn d count i left from ((o + length b1) % 8)
+      → Lies d i (o % 8) ((o + length b1) % 8) → FitWidths d v → TimesMean d left i (o + length b1) v b2 ts
+      → Stands Follow k (o + length b1) b2 x → Stands Follow i o b1 (b2 ++ x)
   times_stands {k} {i} {o = o} {count = count} {b2 = []} b1 at reached turn lies widths h s =
-      record { behind = λ bit rest e. clear.times_behind k i (o % 8) ((o + length b1) % 8) bit count at lies (behind_none Follow (o + length b1) bit (s.behind bit rest e)) }
+      record {
+        behind = λ bit rest e. clear.times_behind k i (o % 8) ((o + length b1) % 8) bit count at lies
+            (behind_none Follow (o + length b1) bit (s.behind bit rest e));
+      }
   times_stands {k} {i} {o = o} {count = count} {b2 = a ∷ r} b1 at reached turn lies widths h s =
-      record { behind = λ bit rest e. let same : a ∷ r ≡ bit ∷ r = cc in clear.times_again k i (o % 8) ((o + length b1) % 8) bit count at lies (turn_again d a r refl at reached turn h) (times_start d clear.shaped bit r same widths h) }
+      record {
+        behind = λ bit rest e. let same : a ∷ r ≡ bit ∷ r = cc in
+            clear.times_again k i (o % 8) ((o + length b1) % 8) bit count at lies
+            (turn_again d a r refl at reached turn h) (times_start d clear.shaped bit r same widths h);
+      }
 
-  pub many_stands : {k i from o : ℕ} {v : Values} {b2 x : List ℕ} {ts : Trees} (b1 : List ℕ) → slice_get d.nodes k ≡ Some (Many i) → Reached d k from → ManyEnd d i from ((o + length b1) % 8) → Lies d i (o % 8) ((o + length b1) % 8) → FitWidths d v → ManyMean d i (o + length b1) v b2 ts → Stands Follow k (o + length b1) b2 x → Stands Follow i o b1 (b2 ++ x)
+  pub many_stands : {k i from o : ℕ} {v : Values} {b2 x : List ℕ} {ts : Trees} (b1 : List ℕ)
+      → slice_get d.nodes k ≡ Some (Many i) → Reached d k from → ManyEnd d i from ((o + length b1) % 8)
+      → Lies d i (o % 8) ((o + length b1) % 8) → FitWidths d v → ManyMean d i (o + length b1) v b2 ts
+      → Stands Follow k (o + length b1) b2 x → Stands Follow i o b1 (b2 ++ x)
   many_stands {k} {i} {o = o} {b2 = []} b1 at reached ended lies widths h s =
-      record { behind = λ bit rest e. clear.many_behind k i (o % 8) ((o + length b1) % 8) bit at lies (behind_none Follow (o + length b1) bit (s.behind bit rest e)) }
+      record {
+        behind = λ bit rest e. clear.many_behind k i (o % 8) ((o + length b1) % 8) bit at lies
+            (behind_none Follow (o + length b1) bit (s.behind bit rest e));
+      }
   many_stands {k} {i} {o = o} {b2 = a ∷ r} b1 at reached ended lies widths h s =
-      record { behind = λ bit rest e. let same : a ∷ r ≡ bit ∷ r = cc in clear.many_again k i (o % 8) ((o + length b1) % 8) bit at lies (many_reached d at reached ended) (many_start d clear.shaped bit r same widths h) }
+      record {
+        behind = λ bit rest e. let same : a ∷ r ≡ bit ∷ r = cc in
+            clear.many_again k i (o % 8) ((o + length b1) % 8) bit at lies (many_reached d at reached ended)
+            (many_start d clear.shaped bit r same widths h);
+      }
 
-  pub choice_stands : {k i o : ℕ} {parts b x : List ℕ} (j : ℕ) → slice_get d.nodes k ≡ Some (Choice parts) → slice_get parts j ≡ Some i → Lies d i (o % 8) ((o + length b) % 8) → Stands Follow k o b x → Stands Follow i o b x
+  pub choice_stands : {k i o : ℕ} {parts b x : List ℕ} (j : ℕ) → slice_get d.nodes k ≡ Some (Choice parts)
+      → slice_get parts j ≡ Some i → Lies d i (o % 8) ((o + length b) % 8)
+      → Stands Follow k o b x → Stands Follow i o b x
   choice_stands {k} {i} {o} {parts} {b} j at part lies s =
       let cut = cuts parts j i part in
-      record { behind = λ bit rest e. clear.choice_behind k i (o % 8) ((o + length b) % 8) bit parts cut.before cut.after (record { at = at; split = cut.is }) lies (s.behind bit rest e) }
+      record {
+        behind = λ bit rest e. clear.choice_behind k i (o % 8) ((o + length b) % 8)
+            bit parts cut.before cut.after (record { at = at; split = cut.is }) lies (s.behind bit rest e);
+      }
 
-  pub named_stands : {k i o : ℕ} {label b x : List ℕ} → slice_get d.nodes k ≡ Some (Named label i) → Lies d i (o % 8) ((o + length b) % 8) → Stands Follow k o b x → Stands Follow i o b x
+  pub named_stands : {k i o : ℕ} {label b x : List ℕ} → slice_get d.nodes k ≡ Some (Named label i)
+      → Lies d i (o % 8) ((o + length b) % 8) → Stands Follow k o b x → Stands Follow i o b x
   named_stands {k} {i} {o} {label} {b} at lies s =
       record { behind = λ bit rest e. clear.named_behind k i (o % 8) ((o + length b) % 8) bit label at lies (s.behind bit rest e) }

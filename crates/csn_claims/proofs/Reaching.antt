@@ -32,7 +32,8 @@ module _ (claims : Claims) where
       record { each = λ before j after q is e. h.each (i ∷ before) j after q (ap (λ l. i ∷ l) is) (parts_next p ends e) }
 
   -- those before one of them
-  pub front_parts : {from : ℕ} {parts before : List ℕ} (i : ℕ) (after : List ℕ) → parts ≡ before ++ i ∷ after → PartsReached parts from → PartsReached before from
+  pub front_parts : {from : ℕ} {parts before : List ℕ} (i : ℕ) (after : List ℕ)
+      → parts ≡ before ++ i ∷ after → PartsReached parts from → PartsReached before from
   front_parts i after split h =
       record { each = λ b j a p is e. h.each b j (a ++ i ∷ after) p (split ∙ ap (λ l. l ++ i ∷ after) is ∙ append_assoc b (j ∷ a) (i ∷ after)) e }
 
@@ -63,12 +64,14 @@ module _ (d : DescV) (most : ℕ) (claims : Claims) (holds : Holds d most claims
   lead_reached {k} {o} {parts} at reached =
       record { each = λ before i after p is e. holds.reached k o i p (Trunc parts) before after (record { at = at; split = is }) reached (reached_trunc e) }
 
-  pub choice_reached : {k o i : ℕ} {parts : List ℕ} (j : ℕ) → slice_get d.nodes k ≡ Some (Choice parts) → slice_get parts j ≡ Some i → IsTrue (claims.reached k o) → IsTrue (claims.reached i o)
+  pub choice_reached : {k o i : ℕ} {parts : List ℕ} (j : ℕ) → slice_get d.nodes k ≡ Some (Choice parts)
+      → slice_get parts j ≡ Some i → IsTrue (claims.reached k o) → IsTrue (claims.reached i o)
   choice_reached {k} {o} {i} {parts} j at part reached =
       let cut = cuts parts j i part in
       holds.reached k o i o (Choice parts) cut.before cut.after (record { at = at; split = cut.is }) reached (reached_choice refl)
 
-  pub window_reached : {k o i unit : ℕ} {count : Count} → slice_get d.nodes k ≡ Some (Window unit count i) → IsTrue (claims.reached k o) → IsTrue (claims.reached i o)
+  pub window_reached : {k o i unit : ℕ} {count : Count} → slice_get d.nodes k ≡ Some (Window unit count i)
+      → IsTrue (claims.reached k o) → IsTrue (claims.reached i o)
   window_reached {k} {o} {i} {unit} {count} at reached =
       holds.reached k o i o (Window unit count i) [] [] (record { at = at; split = refl }) reached (reached_window refl)
 
@@ -77,7 +80,11 @@ module _ (d : DescV) (most : ℕ) (claims : Claims) (holds : Holds d most claims
       holds.reached k o i o (Named label i) [] [] (record { at = at; split = refl }) reached (reached_named refl)
 
   pub free_reached : {k o i : ℕ} → slice_get d.nodes k ≡ Some (Many i) → IsTrue (claims.reached k o) → FreeReached claims i o
-  free_reached {k} {o} {i} at reached = record { each = λ p e. holds.reached k o i p (Many i) [] [] (record { at = at; split = refl }) reached (reached_many e) }
+  free_reached {k} {o} {i} at reached =
+      record {
+        each = λ p e. holds.reached k o i p (Many i) [] [] (record { at = at; split = refl }) reached
+            (reached_many e);
+      }
 
   pub counted_reached : {k o i m field c : ℕ} → slice_get d.nodes k ≡ Some (Times (Counted m field c) i) → IsTrue (claims.reached k o) → FreeReached claims i o
   counted_reached {k} {o} {i} {m} {field} {c} at reached =

@@ -1,5 +1,7 @@
 -- How `clap` reads words of which each can be an argument: the first is the command, and all others are its arguments.
-use Rattle.std.proofs.Common.{◌≡◌, ◌≢◌, ◌∙◌, ◌<◌, ◌≤◌, ◌&&◌, ℕ, true, false, List, [], ◌∷◌, ◌++◌, length, map, fold, Option, Some, None, option_map, codes, refl, sym, ap, ap₂, arith, ne_eqb, le-leb, append_assoc, append-nil}
+use Rattle.std.proofs.Common.{◌≡◌, ◌≢◌, ◌∙◌, ◌<◌, ◌≤◌, ◌&&◌, ℕ, true, false, List, [], ◌∷◌, ◌++◌, length, map, fold}
+use Rattle.std.proofs.Common.{Option, Some, None, option_map, codes, refl, sym, ap, ap₂, arith, ne_eqb, le-leb}
+use Rattle.std.proofs.Common.{append_assoc, append-nil}
 use Rattle.std.specs.Borrow.{Bor}
 use Rattle.std.specs.Option.{unwrap_or}
 use Rattle.std.specs.List.{AllByRecursion}
@@ -67,7 +69,8 @@ further_met w (c ∷ cs) vs is = rw (ne_eqb c 45 is) (rw (no_short c cs is) refl
 all_further : (w : Text) (vs ws : List Text) → AllByRecursion IsArgument ws → fold (walked rules []) (at_arguments w vs) ws ≡ at_arguments w (vs ++ ws)
 all_further w vs [] are = ap (at_arguments w) (sym (append-nil vs))
 all_further w vs (v ∷ ws) are =
-    ap (λ s. fold (walked rules []) s ws) (further_met w v vs are.0) ∙ all_further w (vs ++ v ∷ []) ws are.1 ∙ ap (at_arguments w) (append_assoc vs (v ∷ []) ws)
+    ap (λ s. fold (walked rules []) s ws) (further_met w v vs are.0) ∙ all_further w (vs ++ v ∷ []) ws are.1
+    ∙ ap (at_arguments w) (append_assoc vs (v ∷ []) ws)
 
 -- where the walk ends
 abbrev at_end : Text → List Text → Walk
@@ -77,7 +80,8 @@ at_end w (v ∷ vs) = at_arguments w (v ∷ vs)
 walk_ends : (w : Text) (ws : List Text) → IsArgument w → AllByRecursion IsArgument ws → walk rules [] nothing_held (w ∷ ws) ≡ at_end w ws
 walk_ends w [] is are = command_met w is
 walk_ends w (v ∷ ws) is are =
-    ap (λ s. fold (walked rules []) (walked rules [] s v) ws) (command_met w is) ∙ ap (λ s. fold (walked rules []) s ws) (argument_met w v are.0) ∙ all_further w (v ∷ []) ws are.1
+    ap (λ s. fold (walked rules []) (walked rules [] s v) ws) (command_met w is)
+    ∙ ap (λ s. fold (walked rules []) s ws) (argument_met w v are.0) ∙ all_further w (v ∷ []) ws are.1
 
 -- what is found: the first word, and the arguments where there are some
 abbrev found_rows : Text → List Text → List Row
@@ -118,14 +122,17 @@ all_pass : (w : Text) (vs ws : List Text) → AllByRecursion IsArgument ws → w
 unfolding walk_passes
 all_pass w vs [] are = refl
 all_pass w vs (v ∷ ws) are =
-    ap₂ (λ b s. b && walk_passes (built command_line).top [] s ws) (further_passes w v vs are.0) (further_met w v vs are.0) ∙ all_pass w (vs ++ v ∷ []) ws are.1
+    ap₂ (λ b s. b && walk_passes (built command_line).top [] s ws) (further_passes w v vs are.0)
+    (further_met w v vs are.0) ∙ all_pass w (vs ++ v ∷ []) ws are.1
 
 behind_command : (w : Text) (ws : List Text) → AllByRecursion IsArgument ws → walk_passes (built command_line).top [] (at_command w) ws ≡ true
 unfolding walk_passes
 behind_command w [] are = refl
-behind_command w (v ∷ ws) are = ap₂ (λ b s. b && walk_passes (built command_line).top [] s ws) (argument_passes w v are.0) (argument_met w v are.0) ∙ all_pass w (v ∷ []) ws are.1
+behind_command w (v ∷ ws) are = ap₂ (λ b s. b && walk_passes (built command_line).top [] s ws)
+    (argument_passes w v are.0) (argument_met w v are.0) ∙ all_pass w (v ∷ []) ws are.1
 
-walk_is_passed : (w : Text) (ws : List Text) → IsArgument w → AllByRecursion IsArgument ws → walk_passes (built command_line).top [] (walk_from nothing_held) (w ∷ ws) ≡ true
+walk_is_passed : (w : Text) (ws : List Text) → IsArgument w → AllByRecursion IsArgument ws
+    → walk_passes (built command_line).top [] (walk_from nothing_held) (w ∷ ws) ≡ true
 unfolding walk_passes
 walk_is_passed w ws is are = ap₂ (λ b s. b && walk_passes (built command_line).top [] s ws) (command_passes w is) (command_met w is) ∙ behind_command w ws are
 
@@ -148,17 +155,21 @@ words_taken w ws is are fits =
 
 -- what `clap` has of the words, one list behind the other, is the words
 pub words_back :
-    (ws : List Text) → AllByRecursion IsArgument ws → 0 < length ws → (rows : List Row) → rows ≡ matches_of command_line ws → unwrap_or (all_of (codes "command") rows) [] ++ unwrap_or (all_of (codes "arguments") rows) [] ≡ ws
+    (ws : List Text) → AllByRecursion IsArgument ws → 0 < length ws → (rows : List Row)
+    → rows ≡ matches_of command_line ws → unwrap_or (all_of (codes "command") rows) [] ++ unwrap_or
+    (all_of (codes "arguments") rows) [] ≡ ws
 words_back [] are some rows is = absurd (omega (arith, some))
 words_back (w ∷ ws) are some rows is = rw (is ∙ rows_are w ws are.0 are.1) (two_rows w ws)
   where
-    two_rows : (w : Text) (ws : List Text) → unwrap_or (all_of (codes "command") (found_rows w ws)) [] ++ unwrap_or (all_of (codes "arguments") (found_rows w ws)) [] ≡ w ∷ ws
+    two_rows : (w : Text) (ws : List Text) → unwrap_or (all_of (codes "command") (found_rows w ws)) [] ++ unwrap_or
+        (all_of (codes "arguments") (found_rows w ws)) [] ≡ w ∷ ws
     two_rows w [] = refl
     two_rows w (v ∷ vs) = refl
 
 -- values that are read where there are some
 pub texts_of :
-    {A : Type 0} (f : A → Text) (o : Option (Bor (List A))) (none : Bor (List A)) (found : Option (List Text)) → none.now ≡ [] → option_map (λ s. map f s.now) o ≡ found → map f (unwrap_or o none).now ≡ unwrap_or found []
+    {A : Type 0} (f : A → Text) (o : Option (Bor (List A))) (none : Bor (List A)) (found : Option (List Text))
+    → none.now ≡ [] → option_map (λ s. map f s.now) o ≡ found → map f (unwrap_or o none).now ≡ unwrap_or found []
 texts_of f None none found empty is = ap (map f) empty ∙ ap (λ o. unwrap_or o []) is
 texts_of f (Some s) none found empty is = ap (λ o. unwrap_or o []) is
 

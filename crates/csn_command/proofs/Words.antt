@@ -1,9 +1,11 @@
 -- Lists of as many members as a row of the command table has words.
-use Rattle.std.proofs.Common.{◌≡◌, ◌<◌, ◌≤◌, List, [], ◌∷◌, ◌++◌, reverse, length, get_or, arith, Option, None, IfSome, IsSome, is_some, true≢false, sym, subst, ap, ◌∙◌}
+use Rattle.std.proofs.Common.{◌≡◌, ◌<◌, ◌≤◌, List, [], ◌∷◌, ◌++◌, reverse, length, get_or, arith, Option, None}
+use Rattle.std.proofs.Common.{IfSome, IsSome, is_some, true≢false, sym, subst, ap, ◌∙◌}
 use Rattle.std.proofs.lemmas.List.{append_cancel_right, reverse-append}
 
 -- a list of four members is these four
-pub four_members : {A : Type 0} (xs : List A) (a b c d : A) → 4 ≤ length xs → length xs < 5 → a ≡ get_or xs 0 a → b ≡ get_or xs 1 b → c ≡ get_or xs 2 c → d ≡ get_or xs 3 d → xs ≡ a ∷ b ∷ c ∷ d ∷ []
+pub four_members : {A : Type 0} (xs : List A) (a b c d : A) → 4 ≤ length xs → length xs < 5 → a ≡ get_or xs 0 a
+    → b ≡ get_or xs 1 b → c ≡ get_or xs 2 c → d ≡ get_or xs 3 d → xs ≡ a ∷ b ∷ c ∷ d ∷ []
 four_members [] a b c d low high p q r s = absurd (omega arith)
 four_members (w ∷ []) a b c d low high p q r s = absurd (omega arith)
 four_members (w ∷ x ∷ []) a b c d low high p q r s = absurd (omega arith)
@@ -25,7 +27,8 @@ two_members (w ∷ x ∷ []) a b low high p q = cc
 two_members (w ∷ x ∷ y ∷ rest) a b low high p q = absurd (omega arith)
 
 -- a list of three members is these three
-pub three_members : {A : Type 0} (xs : List A) (a b c : A) → 3 ≤ length xs → length xs < 4 → a ≡ get_or xs 0 a → b ≡ get_or xs 1 b → c ≡ get_or xs 2 c → xs ≡ a ∷ b ∷ c ∷ []
+pub three_members : {A : Type 0} (xs : List A) (a b c : A) → 3 ≤ length xs → length xs < 4 → a ≡ get_or xs 0 a
+    → b ≡ get_or xs 1 b → c ≡ get_or xs 2 c → xs ≡ a ∷ b ∷ c ∷ []
 three_members [] a b c low high p q r = absurd (omega arith)
 three_members (w ∷ []) a b c low high p q r = absurd (omega arith)
 three_members (w ∷ x ∷ []) a b c low high p q r = absurd (omega arith)

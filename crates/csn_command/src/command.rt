@@ -5,7 +5,9 @@ ghost use Rattle.csn_desc.specs.declared.reading.Reading.{Reading};
 ghost use Rattle.csn_soak.specs.declared.soaking.TheConstants.{MOST_BLOCKS};
 ghost use Rattle.csn_command.specs.declared.command.RuleCommand.{RuleCommand};
 ghost use Rattle.csn_command.specs.declared.command.RuleReport.{RuleReport};
-ghost use Rattle.csn_command.specs.Command.{AreRuleWords, IsArgument, IsCommand, IsCompat, IsVerify, IsMigrate, IsOverRule, IsRowOf, IsSoak, NamesReading, NamesRule, command_word, report_word, word_of};
+ghost use Rattle.csn_command.specs.Command.{AreRuleWords, IsArgument, IsCommand, IsCompat, IsVerify, IsMigrate};
+ghost use Rattle.csn_command.specs.Command.{IsOverRule, IsRowOf, IsSoak, NamesReading, NamesRule, command_word};
+ghost use Rattle.csn_command.specs.Command.{report_word, word_of};
 
 use csn_catalogue::{Entry, entry_of};
 use csn_desc::Reading;
@@ -194,7 +196,8 @@ fn pair_words<'a, W: AsStr>(words: &'a [W]) -> Option<PairWords<'a>>
 /// The rule and the file of a certificate that the words `verify FILE NAME READING CERT` name, where these are such words.
 fn verify_words<'a, W: AsStr>(words: &'a [W]) -> Option<(RuleWords<'a>, &'a str)>
     ensures names { IfSome result (λ asked. IsVerify (map W.text words.now) asked.0.file.now asked.0.name.now asked.0.reading asked.1.now) }
-    ensures none { (file name : List ℕ) (reading : Reading) (certificate : List ℕ) → IsVerify (map W.text words.now) file name reading certificate → IsSome result }
+    ensures none { (file name : List ℕ) (reading : Reading) (certificate : List ℕ) → IsVerify (map W.text words.now)
+        file name reading certificate → IsSome result }
 {
     let (certificate, front) = words.split_last()?;
     let rule = rule_words("verify", front)?;

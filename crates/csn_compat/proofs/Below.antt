@@ -25,6 +25,7 @@ pub record IsBehind (d : DescV) (i p : ℕ) : Type 0 where
   pub within : p < length d.nodes
 
 -- the node at i is this one, and p stands among its parts
-pub is_behind : (d : DescV) (i k p : ℕ) (n x : Node) → IsDescription d → slice_get d.nodes i ≡ Some x → x ≡ n → slice_get (parts_of n) k ≡ Some p → IsBehind d i p
+pub is_behind : (d : DescV) (i k p : ℕ) (n x : Node) → IsDescription d → slice_get d.nodes i ≡ Some x → x ≡ n
+    → slice_get (parts_of n) k ≡ Some p → IsBehind d i p
 is_behind d i k p n x is at same there =
     parts_later d i n (IsBehind d i) is (at ∙ ap (λ y. Some y) same) (λ j less more. record { behind = less; within = more }) k p there

@@ -3,7 +3,9 @@ use Rattle.std.proofs.Common.{[], ◌∷◌, refl}
 use Rattle.csn_desc.specs.declared.symbol.Symbol.TheVariants.{Zero}
 use Rattle.csn_desc.specs.declared.node.Count.TheVariants.{Fixed, Counted}
 use Rattle.csn_desc.specs.declared.node.Node.TheVariants.{Lits, Field, Seq, Choice, Named}
-use Rattle.csn_compat.specs.Takes.{any_bits, any_bits_labelled, takes_at, takes_labelled, takes_by_labelled, takes_by_choice, takes_leaf, takes_seq, parts_taken, parts_take, parts_taken_by_rest}
+use Rattle.csn_compat.specs.Takes.{any_bits, any_bits_labelled, takes_at, takes_labelled, takes_by_labelled}
+use Rattle.csn_compat.specs.Takes.{takes_by_choice, takes_leaf, takes_seq, parts_taken, parts_take}
+use Rattle.csn_compat.specs.Takes.{parts_taken_by_rest}
 use Rattle.csn_compat.specs.Examples.{LaterMessageTakesMessage, CountsGoByPairs}
 
 pub later_message_takes_message : LaterMessageTakesMessage

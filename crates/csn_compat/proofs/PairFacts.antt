@@ -1,5 +1,7 @@
 -- Fields that are pairs have one number, in the old values and in the new ones.
-use Rattle.std.proofs.Common.{◌≡◌, ℕ, ◌+◌, ◌*◌, ◌<◌, ◌≤◌, ◌==◌, ◌&&◌, ◌||◌, ◌⊎◌, Bool, true, false, if◌then◌else◌, IsTrue, List, [], ◌∷◌, ◌++◌, refl, sym, ◌∙◌, ap, arith, inl, inr, Option, Some, None, eqb-true}
+use Rattle.std.proofs.Common.{◌≡◌, ℕ, ◌+◌, ◌*◌, ◌<◌, ◌≤◌, ◌==◌, ◌&&◌, ◌||◌, ◌⊎◌, Bool, true, false, if◌then◌else◌}
+use Rattle.std.proofs.Common.{IsTrue, List, [], ◌∷◌, ◌++◌, refl, sym, ◌∙◌, ap, arith, inl, inr, Option, Some, None}
+use Rattle.std.proofs.Common.{eqb-true}
 use Rattle.std.specs.Prelude.{slice_get}
 use Rattle.std.specs.Option.{option_map, option_and_then}
 use Rattle.std.proofs.lemmas.Bool.{eq-eqb}
@@ -15,7 +17,9 @@ use Rattle.csn_compat.specs.declared.pairs.Pair.{Pair}
 use Rattle.csn_compat.specs.Pairs.{are_paired, same_width, with_pair, CountsAgree}
 
 -- a pair of some pairs and one more is the one more, or one of those
-pub paired_cases : (pairs : List Pair) (p q field taker : ℕ) → IsTrue (are_paired (pairs ++ record { before = p; after = q } ∷ []) field taker) → IsTrue (are_paired pairs field taker) ⊎ ((p ≡ field) × (q ≡ taker))
+pub paired_cases : (pairs : List Pair) (p q field taker : ℕ)
+    → IsTrue (are_paired (pairs ++ record { before = p; after = q } ∷ []) field taker)
+    → IsTrue (are_paired pairs field taker) ⊎ ((p ≡ field) × (q ≡ taker))
 paired_cases [] p q field taker h = last (p == field) (q == taker) refl refl h
   where
     last : (a b : Bool) → (p == field) ≡ a → (q == taker) ≡ b → IsTrue (a && b || false) → IsTrue (are_paired [] field taker) ⊎ ((p ≡ field) × (q ≡ taker))
@@ -24,7 +28,10 @@ paired_cases [] p q field taker h = last (p == field) (q == taker) refl refl h
     last false b is_p is_q h = absurd (cc)
 paired_cases (x ∷ pairs) p q field taker h = first (x.before == field && x.after == taker) h (λ there. paired_cases pairs p q field taker there)
   where
-    first : (a : Bool) → IsTrue (a || are_paired (pairs ++ record { before = p; after = q } ∷ []) field taker) → (IsTrue (are_paired (pairs ++ record { before = p; after = q } ∷ []) field taker) → IsTrue (are_paired pairs field taker) ⊎ ((p ≡ field) × (q ≡ taker))) → IsTrue (a || are_paired pairs field taker) ⊎ ((p ≡ field) × (q ≡ taker))
+    first : (a : Bool) → IsTrue (a || are_paired (pairs ++ record { before = p; after = q } ∷ []) field taker)
+        → (IsTrue (are_paired (pairs ++ record { before = p; after = q } ∷ []) field taker)
+        → IsTrue (are_paired pairs field taker) ⊎ ((p ≡ field) × (q ≡ taker)))
+        → IsTrue (a || are_paired pairs field taker) ⊎ ((p ≡ field) × (q ≡ taker))
     first true h later = inl refl
     first false h later = later h
 
@@ -49,7 +56,8 @@ width_named nodes i width is = at (slice_get nodes i) is
     at None is = cc
 
 -- of two parts with one width both are labelled
-both_named : (nodes others : List Node) (p q : ℕ) → same_width (value_width nodes p) (value_width others q) ≡ true → (is_named nodes p ≡ true) × (is_named others q ≡ true)
+both_named : (nodes others : List Node) (p q : ℕ) → same_width (value_width nodes p) (value_width others q) ≡ true
+    → (is_named nodes p ≡ true) × (is_named others q ≡ true)
 both_named nodes others p q same = at (value_width nodes p) (value_width others q) refl refl same
   where
     at : (w x : Option ℕ) → value_width nodes p ≡ w → value_width others q ≡ x → same_width w x ≡ true → (is_named nodes p ≡ true) × (is_named others q ≡ true)
@@ -103,7 +111,9 @@ module _ (was now : DescV) where
     earlier = λ field taker. at (same_width (value_width was.nodes i) (value_width now.nodes j)) field taker;
   }
     where
-      at : (same : Bool) (field taker : ℕ) → IsTrue (are_paired (if same then pairs ++ record { before = i; after = j } ∷ [] else pairs) field taker) → (field < k) × (taker < m)
+      at : (same : Bool) (field taker : ℕ)
+          → IsTrue (are_paired (if same then pairs ++ record { before = i; after = j } ∷ [] else pairs) field taker)
+          → (field < k) × (taker < m)
       at true field taker is = elim (paired_cases pairs i j field taker is) [
         | inl there ↦ let e = h.earlier field taker there in (omega arith, omega arith)
         | inr last ↦ (omega arith, omega arith)
@@ -111,17 +121,21 @@ module _ (was now : DescV) where
       at false field taker is = let e = h.earlier field taker is in (omega arith, omega arith)
 
   -- behind two parts that have the same bits, the fields of each pair have one number too
-  pub next_agree : (pairs : List Pair) (i j : ℕ) (v w : Values) (b : List ℕ) → AreEarlier pairs i j → AgreeOn pairs v w → AgreeOn (with_pair was now i j pairs) (with_value was.nodes i b v) (with_value now.nodes j b w)
+  pub next_agree : (pairs : List Pair) (i j : ℕ) (v w : Values) (b : List ℕ)
+      → AreEarlier pairs i j → AgreeOn pairs v w → AgreeOn (with_pair was now i j pairs) (with_value was.nodes i b v)
+      (with_value now.nodes j b w)
   next_agree pairs i j v w b h values = record {
     agree = λ field taker. at (same_width (value_width was.nodes i) (value_width now.nodes j)) refl field taker;
   }
     where
-      kept : (field taker : ℕ) → IsTrue (are_paired pairs field taker) → value_of (with_value was.nodes i b v) field ≡ value_of (with_value now.nodes j b w) taker
+      kept : (field taker : ℕ) → IsTrue (are_paired pairs field taker)
+          → value_of (with_value was.nodes i b v) field ≡ value_of (with_value now.nodes j b w) taker
       kept field taker is =
           let e = h.earlier field taker is in
           value_left was.nodes i b v field e.0 ∙ values.agree field taker is ∙ sym (value_left now.nodes j b w taker e.1)
 
-      made : (field taker : ℕ) → same_width (value_width was.nodes i) (value_width now.nodes j) ≡ true → i ≡ field → j ≡ taker → value_of (with_value was.nodes i b v) field ≡ value_of (with_value now.nodes j b w) taker
+      made : (field taker : ℕ) → same_width (value_width was.nodes i) (value_width now.nodes j) ≡ true → i ≡ field
+          → j ≡ taker → value_of (with_value was.nodes i b v) field ≡ value_of (with_value now.nodes j b w) taker
       made field taker same is_field is_taker =
           let named = both_named was.nodes now.nodes i j same in
           ap (λ k. value_of (with_value was.nodes i b v) k) (sym is_field)
@@ -129,7 +143,9 @@ module _ (was now : DescV) where
           ∙ sym (value_made now.nodes j b w named.1)
           ∙ ap (λ k. value_of (with_value now.nodes j b w) k) is_taker
 
-      at : (same : Bool) → same_width (value_width was.nodes i) (value_width now.nodes j) ≡ same → (field taker : ℕ) → IsTrue (are_paired (if same then pairs ++ record { before = i; after = j } ∷ [] else pairs) field taker) → value_of (with_value was.nodes i b v) field ≡ value_of (with_value now.nodes j b w) taker
+      at : (same : Bool) → same_width (value_width was.nodes i) (value_width now.nodes j) ≡ same → (field taker : ℕ)
+          → IsTrue (are_paired (if same then pairs ++ record { before = i; after = j } ∷ [] else pairs) field taker)
+          → value_of (with_value was.nodes i b v) field ≡ value_of (with_value now.nodes j b w) taker
       at true same field taker is = elim (paired_cases pairs i j field taker is) [
         | inl there ↦ kept field taker there
         | inr last ↦ made field taker same last.0 last.1
@@ -144,7 +160,9 @@ pub record AsMany (unit n other : ℕ) (w : Values) (count : Count) : Type 0 whe
   pub counted : count_of w count ≡ Some amount
   pub equal : unit * n ≡ other * amount
 
-pub as_many : (pairs : List Pair) (v w : Values) (unit other n : ℕ) (count taker : Count) → AgreeOn pairs v w → CountsAgree pairs unit count other taker → count_of v count ≡ Some n → AsMany unit n other w taker
+pub as_many : (pairs : List Pair) (v w : Values) (unit other n : ℕ) (count taker : Count)
+    → AgreeOn pairs v w → CountsAgree pairs unit count other taker → count_of v count ≡ Some n
+    → AsMany unit n other w taker
 as_many pairs v w unit other n (Fixed a) (Fixed b) values agree is = record {
   amount = b;
   counted = refl;

@@ -1,5 +1,7 @@
 -- Part by part: what is kept behind the first parts, that there is room for it, and what is taken then.
-use Rattle.std.proofs.Common.{◌≡◌, ℕ, zero, suc, ◌+◌, ◌<◌, ◌≤◌, Bool, true, false, if◌then◌else◌, IsTrue, List, [], ◌∷◌, ◌++◌, length, take, get_or, refl, sym, ◌∙◌, ap, subst, arith, inl, inr, Option, Some, None, append-nil, append_assoc}
+use Rattle.std.proofs.Common.{◌≡◌, ℕ, zero, suc, ◌+◌, ◌<◌, ◌≤◌, Bool, true, false, if◌then◌else◌, IsTrue, List, []}
+use Rattle.std.proofs.Common.{◌∷◌, ◌++◌, length, take, get_or, refl, sym, ◌∙◌, ap, subst, arith, inl, inr, Option}
+use Rattle.std.proofs.Common.{Some, None, append-nil, append_assoc}
 use Rattle.std.proofs.Math.Seq.{take-append_seam}
 use Rattle.std.proofs.lemmas.Bool.{cases_order}
 use Rattle.std.specs.Prelude.{slice_get, count_by}
@@ -23,12 +25,16 @@ module _ (was now : DescV) where
   -- ---- what is kept
 
   -- the first part and then the others
-  pub behind_cons : (p q : ℕ) (parts others : List ℕ) (pairs : List Pair) (k : ℕ) → pairs_behind was now (p ∷ parts) (q ∷ others) pairs (suc k) ≡ pairs_behind was now parts others (with_kept was now p q pairs) k
+  pub behind_cons : (p q : ℕ) (parts others : List ℕ) (pairs : List Pair) (k : ℕ)
+      → pairs_behind was now (p ∷ parts) (q ∷ others) pairs (suc k) ≡ pairs_behind was now parts others
+      (with_kept was now p q pairs) k
   behind_cons p q parts others pairs zero = refl
   behind_cons p q parts others pairs (suc k) = ap (with_kept was now (get_or parts k 0) (get_or others k 0)) (behind_cons p q parts others pairs k)
 
   -- one more part
-  pub behind_next : (parts others : List ℕ) (pairs before after : List Pair) (k p q : ℕ) → slice_get parts k ≡ Some p → slice_get others k ≡ Some q → before ≡ pairs_behind was now parts others pairs k → after ≡ with_kept was now p q before → after ≡ pairs_behind was now parts others pairs (suc k)
+  pub behind_next : (parts others : List ℕ) (pairs before after : List Pair) (k p q : ℕ)
+      → slice_get parts k ≡ Some p → slice_get others k ≡ Some q → before ≡ pairs_behind was now parts others pairs k
+      → after ≡ with_kept was now p q before → after ≡ pairs_behind was now parts others pairs (suc k)
   behind_next parts others pairs before after k p q at_p at_q is next =
       let old : p ≡ get_or parts k 0 = sym (get_or_from_slice_get parts k p 0 at_p) in
       let new : q ≡ get_or others k 0 = sym (get_or_from_slice_get others k q 0 at_q) in
@@ -41,7 +47,9 @@ module _ (was now : DescV) where
   pub kept_extends : (p q : ℕ) (pairs : List Pair) → (more : List Pair) × (with_kept was now p q pairs ≡ pairs ++ more)
   kept_extends p q pairs = at (is_counted was.nodes p) (same_width (value_width was.nodes p) (value_width now.nodes q))
     where
-      at : (counted same : Bool) → (more : List Pair) × ((if counted then (if same then pairs ++ record { before = p; after = q } ∷ [] else pairs) else pairs) ≡ pairs ++ more)
+      at : (counted same : Bool) → (more : List Pair)
+          × ((if counted then (if same then pairs ++ record { before = p; after = q } ∷ [] else pairs) else pairs)
+          ≡ pairs ++ more)
       at true true = (record { before = p; after = q } ∷ [], refl)
       at true false = ([], sym (append-nil pairs))
       at false same = ([], sym (append-nil pairs))
@@ -49,19 +57,25 @@ module _ (was now : DescV) where
   -- ---- room for it
 
   -- one part more
-  pub next_few : (p q : ℕ) (pairs : List Pair) (seen : List ℕ) → length pairs ≤ count_by (is_counted was.nodes) seen → length (with_kept was now p q pairs) ≤ count_by (is_counted was.nodes) (with_seen was.nodes true p seen)
-  next_few p q pairs seen few = at (is_counted was.nodes p) (same_width (value_width was.nodes p) (value_width now.nodes q)) (is_named was.nodes p) refl (λ same. wide_named (value_width was.nodes p) (value_width now.nodes q) refl same)
+  pub next_few : (p q : ℕ) (pairs : List Pair) (seen : List ℕ) → length pairs ≤ count_by (is_counted was.nodes) seen
+      → length (with_kept was now p q pairs) ≤ count_by (is_counted was.nodes) (with_seen was.nodes true p seen)
+  next_few p q pairs seen few =
+      at (is_counted was.nodes p) (same_width (value_width was.nodes p) (value_width now.nodes q))
+      (is_named was.nodes p) refl (λ same. wide_named (value_width was.nodes p) (value_width now.nodes q) refl same)
     where
       wide_named : (w x : Option ℕ) → value_width was.nodes p ≡ w → same_width w x ≡ true → is_named was.nodes p ≡ true
       wide_named (Some w) x is same = width_named was.nodes p w is
       wide_named None x is same = absurd (cc)
 
-      one_more : (counted : Bool) → is_counted was.nodes p ≡ counted → count_by (is_counted was.nodes) (p ∷ seen) ≡ (if counted then 1 else 0) + count_by (is_counted was.nodes) seen
+      one_more : (counted : Bool) → is_counted was.nodes p ≡ counted → count_by (is_counted was.nodes)
+          (p ∷ seen) ≡ (if counted then 1 else 0) + count_by (is_counted was.nodes) seen
       one_more counted is =
           sum_by-cons (λ x. if is_counted was.nodes x then 1 else 0) p seen
           ∙ ap (λ x. (if x then 1 else 0) + count_by (is_counted was.nodes) seen) is
 
-      at : (counted same named : Bool) → is_counted was.nodes p ≡ counted → (same ≡ true → named ≡ true) → length (if counted then (if same then pairs ++ record { before = p; after = q } ∷ [] else pairs) else pairs) ≤ count_by (is_counted was.nodes) (if named then p ∷ seen else seen)
+      at : (counted same named : Bool) → is_counted was.nodes p ≡ counted → (same ≡ true → named ≡ true)
+          → length (if counted then (if same then pairs ++ record { before = p; after = q } ∷ [] else pairs)
+          else pairs) ≤ count_by (is_counted was.nodes) (if named then p ∷ seen else seen)
       at true true true counted both = let more = one_more true counted in omega (arith, length-append pairs (record { before = p; after = q } ∷ []))
       at true true false counted both = let wrong : false ≡ true = both refl in absurd (cc)
       at true false true counted both = let more = one_more true counted in omega arith
@@ -70,17 +84,24 @@ module _ (was now : DescV) where
       at false same false counted both = few
 
   -- the parts of a node that shows them
-  pub room_at : (parts : List ℕ) (k p : ℕ) (others : List ℕ) (pairs : List Pair) (seen : List ℕ) {round : ℕ} → PartsFormed was.nodes true seen round parts → length pairs ≤ count_by (is_counted was.nodes) seen → k ≤ length others → slice_get parts k ≡ Some p → HasRoom was.nodes (pairs_behind was now parts others pairs k) p
+  pub room_at : (parts : List ℕ) (k p : ℕ) (others : List ℕ) (pairs : List Pair) (seen : List ℕ) {round : ℕ}
+      → PartsFormed was.nodes true seen round parts → length pairs ≤ count_by (is_counted was.nodes) seen
+      → k ≤ length others → slice_get parts k ≡ Some p → HasRoom was.nodes (pairs_behind was now parts others pairs k)
+      p
   room_at [] k p others pairs seen h few within at = absurd (cc)
   room_at (i ∷ parts) zero p others pairs seen {round = round} (formed_next h rest) few within at =
       let same : i ≡ p = cc in
       subst (λ x. HasRoom was.nodes pairs x) same (record { seen = seen; round = round; formed = h; few = few })
   room_at (i ∷ parts) (suc k) p [] pairs seen (formed_next h rest) few within at = absurd (omega arith)
   room_at (i ∷ parts) (suc k) p (q ∷ others) pairs seen (formed_next h rest) few within at =
-      subst (λ x. HasRoom was.nodes x p) (sym (behind_cons i q parts others pairs k)) (room_at parts k p others (with_kept was now i q pairs) (with_seen was.nodes true i seen) rest (next_few i q pairs seen few) (omega arith) at)
+      subst (λ x. HasRoom was.nodes x p) (sym (behind_cons i q parts others pairs k))
+      (room_at parts k p others (with_kept was now i q pairs) (with_seen was.nodes true i seen) rest
+      (next_few i q pairs seen few) (omega arith) at)
 
   -- the parts of a sequence or truncation
-  pub room_shown : (i k p : ℕ) (parts others : List ℕ) (pairs : List Pair) → HasRoom was.nodes pairs i → AreShown was.nodes i parts → k ≤ length others → slice_get parts k ≡ Some p → HasRoom was.nodes (pairs_behind was now parts others pairs k) p
+  pub room_shown : (i k p : ℕ) (parts others : List ℕ) (pairs : List Pair)
+      → HasRoom was.nodes pairs i → AreShown was.nodes i parts → k ≤ length others → slice_get parts k ≡ Some p
+      → HasRoom was.nodes (pairs_behind was now parts others pairs k) p
   room_shown i k p parts others pairs room shown within at = from room.formed shown
     where
       from : {round : ℕ} → Formed was.nodes room.seen round i → AreShown was.nodes i parts → HasRoom was.nodes (pairs_behind was now parts others pairs k) p
@@ -93,7 +114,8 @@ module _ (was now : DescV) where
 
 module _ (nodes : List Node) where
   -- the parts of a node that does not show them
-  pub room_below : (i k p : ℕ) (n : Node) (pairs : List Pair) → HasRoom nodes pairs i → slice_get nodes i ≡ Some n → shows_earlier n ≡ false → slice_get (parts_of n) k ≡ Some p → HasRoom nodes pairs p
+  pub room_below : (i k p : ℕ) (n : Node) (pairs : List Pair) → HasRoom nodes pairs i → slice_get nodes i ≡ Some n
+      → shows_earlier n ≡ false → slice_get (parts_of n) k ≡ Some p → HasRoom nodes pairs p
   room_below i k p n pairs room is hides at = from room.formed
     where
       from : {round : ℕ} → Formed nodes room.seen round i → HasRoom nodes pairs p
@@ -160,13 +182,15 @@ pub extends_front : (pairs longer more : List Pair) → longer ≡ pairs ++ more
 extends_front pairs longer more is = ap (take (length pairs)) is ∙ take-append_seam pairs more
 
 -- a pair more
-pub extends_more : (was now : DescV) (p q : ℕ) (pairs before after : List Pair) → (more : List Pair) × (before ≡ pairs ++ more) → after ≡ with_kept was now p q before → (more : List Pair) × (after ≡ pairs ++ more)
+pub extends_more : (was now : DescV) (p q : ℕ) (pairs before after : List Pair) → (more : List Pair)
+    × (before ≡ pairs ++ more) → after ≡ with_kept was now p q before → (more : List Pair) × (after ≡ pairs ++ more)
 extends_more was now p q pairs before after h next =
     let kept = kept_extends was now p q before in
     (h.0 ++ kept.0, next ∙ kept.1 ∙ ap (λ x. x ++ kept.0) h.1 ∙ append_assoc pairs h.0 kept.0)
 
 -- what holds of the elements at the places below k, and of that at k
-pub up_to : (P : ℕ → ℕ → Type 0) (xs : List ℕ) (k x : ℕ) → slice_get xs k ≡ Some x → P k x → ((m y : ℕ) → m < k → slice_get xs m ≡ Some y → P m y) → (m y : ℕ) → m < k + 1 → slice_get xs m ≡ Some y → P m y
+pub up_to : (P : ℕ → ℕ → Type 0) (xs : List ℕ) (k x : ℕ) → slice_get xs k ≡ Some x → P k x
+    → ((m y : ℕ) → m < k → slice_get xs m ≡ Some y → P m y) → (m y : ℕ) → m < k + 1 → slice_get xs m ≡ Some y → P m y
 up_to P xs k x at here before m y less there = elim (cases_order m k) [
   | inl same ↦
       let equal : slice_get xs k ≡ Some y = ap (slice_get xs) (sym same) ∙ there in

@@ -12,14 +12,21 @@ use Rattle.csn_desc.specs.TreeV.{TreeV, empty, bits, row, alt, named, Trees, non
 use Rattle.csn_desc.specs.Nodes.{DescV}
 use Rattle.csn_desc.specs.Spelled.{spelled, IsSpare}
 use Rattle.csn_desc.specs.Values.{Values}
-use Rattle.csn_desc.specs.Means.{NMeans, NodeMeans, PartsMean, TimesMean, ManyMean, LeadMean, means_at, means_lits, means_spare, means_pad, means_null, means_field, means_rest, means_seq, means_choice, means_times, means_many, means_cut, means_trunc, means_window, means_named, parts_end, parts_next, times_end, times_next, many_end, many_next, lead_last, lead_next}
+use Rattle.csn_desc.specs.Means.{NMeans, NodeMeans, PartsMean, TimesMean, ManyMean, LeadMean, means_at, means_lits}
+use Rattle.csn_desc.specs.Means.{means_spare, means_pad, means_null, means_field, means_rest, means_seq, means_choice}
+use Rattle.csn_desc.specs.Means.{means_times, means_many, means_cut, means_trunc, means_window, means_named}
+use Rattle.csn_desc.specs.Means.{parts_end, parts_next, times_end, times_next, many_end, many_next, lead_last}
+use Rattle.csn_desc.specs.Means.{lead_next}
 use Rattle.csn_desc.specs.Formed.{Spans, PartsSpan, span_next}
 use Rattle.csn_desc.proofs.Nodewise.{meaning_at}
 use Rattle.csn_desc.proofs.MeantBits.{meant_bits}
 use Rattle.csn_desc.proofs.BitFacts.{IsBits-along, IsBits-split, IsBits-spelled, IsBits-spare, length-spelled}
 use Rattle.csn_desc.proofs.Numbering.{span_grows, span_parts}
 use Rattle.csn_compat.specs.declared.pairs.Pair.{Pair}
-use Rattle.csn_compat.specs.Takes.{LeafTakes, takes_leaf, IsAnyBits, Takes, NodeTakes, PartsTake, LeadTake, any_bits, any_bits_labelled, takes_at, takes_labelled, takes_by_labelled, takes_by_rest, takes_choice, takes_by_choice, takes_seq, takes_times, takes_many, takes_trunc, takes_window, parts_taken, parts_take, parts_taken_by_rest, lead_taken, lead_takes}
+use Rattle.csn_compat.specs.Takes.{LeafTakes, takes_leaf, IsAnyBits, Takes, NodeTakes, PartsTake, LeadTake, any_bits}
+use Rattle.csn_compat.specs.Takes.{any_bits_labelled, takes_at, takes_labelled, takes_by_labelled, takes_by_rest}
+use Rattle.csn_compat.specs.Takes.{takes_choice, takes_by_choice, takes_seq, takes_times, takes_many, takes_trunc}
+use Rattle.csn_compat.specs.Takes.{takes_window, parts_taken, parts_take, parts_taken_by_rest, lead_taken, lead_takes}
 use Rattle.csn_compat.specs.Laws.{BlocksAreTaken}
 use Rattle.csn_compat.proofs.Below.{below}
 use Rattle.csn_compat.proofs.PairFacts.{AreEarlier, AgreeOn, none_earlier, none_agree, later_still, next_earlier, next_agree, as_many}
@@ -57,14 +64,18 @@ any_tree now o w b (any_bits_labelled label part at h) is =
     record { tree = named label inner.tree; means = means_at (Named label part) at (means_named inner.means) }
 
 -- turn by turn
-times_tree : (was now : DescV) (p q : ℕ) (v w : Values) → ((o : ℕ) (b : List ℕ) (t : TreeV) → NMeans was p o v b t → HasTree now q o w b) → {n o : ℕ} {b : List ℕ} {ts : Trees} → TimesMean was n p o v b ts → HasTimes now n q o w b
+times_tree : (was now : DescV) (p q : ℕ) (v w : Values)
+    → ((o : ℕ) (b : List ℕ) (t : TreeV) → NMeans was p o v b t → HasTree now q o w b)
+    → {n o : ℕ} {b : List ℕ} {ts : Trees} → TimesMean was n p o v b ts → HasTimes now n q o w b
 times_tree was now p q v w turn (times_end is_none void) = record { trees = none; means = times_end is_none void }
 times_tree was now p q v w turn {o = o} (times_next {t = t} m is b1 b2 cut h others) =
     let first = turn o b1 t h in
     let rest = times_tree was now p q v w turn others in
     record { trees = more first.tree rest.trees; means = times_next m is b1 b2 cut first.means rest.means }
 
-many_tree : (was now : DescV) (p q : ℕ) (v w : Values) → ((o : ℕ) (b : List ℕ) (t : TreeV) → NMeans was p o v b t → HasTree now q o w b) → {o : ℕ} {b : List ℕ} {ts : Trees} → ManyMean was p o v b ts → HasMany now q o w b
+many_tree : (was now : DescV) (p q : ℕ) (v w : Values)
+    → ((o : ℕ) (b : List ℕ) (t : TreeV) → NMeans was p o v b t → HasTree now q o w b)
+    → {o : ℕ} {b : List ℕ} {ts : Trees} → ManyMean was p o v b ts → HasMany now q o w b
 many_tree was now p q v w turn (many_end void) = record { trees = none; means = many_end void }
 many_tree was now p q v w turn {o = o} (many_next {t = t} b1 b2 cut some h others) =
     let first = turn o b1 t h in
@@ -92,7 +103,9 @@ node_tree now at h = record { tree = h.tree; means = meaning_at now at h.means }
 
 module _ (was now : DescV) (readings : was.reading ≡ now.reading) where
   -- a leaf that is taken
-  leaf_carried : (n m : Node) {pairs : List Pair} → LeafTakes pairs n m → {o : ℕ} {v w : Values} {b : List ℕ} {t : TreeV} → AgreeOn pairs v w → NodeMeans was n o v b t → HasNodeTree now m o w b
+  leaf_carried : (n m : Node) {pairs : List Pair}
+      → LeafTakes pairs n m → {o : ℕ} {v w : Values} {b : List ℕ} {t : TreeV}
+      → AgreeOn pairs v w → NodeMeans was n o v b t → HasNodeTree now m o w b
   leaf_carried Null Null h agree (means_null void) = record { tree = empty; means = means_null void }
   leaf_carried Null (Many other) h agree (means_null void) = record { tree = row none; means = means_many (many_end void) }
   leaf_carried Null (Trunc others) h agree (means_null void) = record { tree = row none; means = means_cut void }
@@ -111,35 +124,47 @@ module _ (was now : DescV) (readings : was.reading ≡ now.reading) where
   leaf_carried _ _ h agree means = absurd h
 
   mutual
-    carried : {i j : ℕ} {pairs : List Pair} → Takes was now i j pairs → (e f : ℕ) → Spans was.nodes i e → Spans now.nodes j f → AreEarlier pairs i j → {o : ℕ} {v w : Values} {b : List ℕ} {t : TreeV} → AgreeOn pairs v w → NMeans was i o v b t → HasTree now j o w b
+    carried : {i j : ℕ} {pairs : List Pair} → Takes was now i j pairs → (e f : ℕ)
+        → Spans was.nodes i e → Spans now.nodes j f → AreEarlier pairs i j → {o : ℕ} {v w : Values} {b : List ℕ}
+        {t : TreeV} → AgreeOn pairs v w → NMeans was i o v b t → HasTree now j o w b
     carried (takes_at n m at_i at_j h) e f old new earlier agree means =
         let inner = node_carried h e f at_i at_j old new earlier agree (meaning_at was at_i means) in
         record { tree = inner.tree; means = means_at m at_j inner.means }
 
-    node_carried : {i j : ℕ} {n m : Node} {pairs : List Pair} → NodeTakes was now i n j m pairs → (e f : ℕ) → slice_get was.nodes i ≡ Some n → slice_get now.nodes j ≡ Some m → Spans was.nodes i e → Spans now.nodes j f → AreEarlier pairs i j → {o : ℕ} {v w : Values} {b : List ℕ} {t : TreeV} → AgreeOn pairs v w → NodeMeans was n o v b t → HasNodeTree now m o w b
+    node_carried : {i j : ℕ} {n m : Node} {pairs : List Pair} → NodeTakes was now i n j m pairs → (e f : ℕ)
+        → slice_get was.nodes i ≡ Some n → slice_get now.nodes j ≡ Some m → Spans was.nodes i e → Spans now.nodes j f
+        → AreEarlier pairs i j → {o : ℕ} {v w : Values} {b : List ℕ} {t : TreeV}
+        → AgreeOn pairs v w → NodeMeans was n o v b t → HasNodeTree now m o w b
     node_carried (takes_labelled {i = i} {j = j} {part = part} {label = label} {pairs = pairs} h) e f at_i at_j old new earlier agree (means_named means) =
         let down = below was.nodes i e 0 part (Named label part) at_i old refl in
         let inner = carried h down.end f down.span new (later_still pairs i j part j (omega (arith, down.behind)) (omega arith) earlier) agree means in
         node_tree now at_j inner
-    node_carried (takes_by_labelled {i = i} {j = j} {part = part} {label = label} {n = n} {pairs = pairs} not_label h) e f at_i at_j old new earlier agree means =
+    node_carried (takes_by_labelled {i = i} {j = j} {part = part} {label = label} {n = n} {pairs = pairs} not_label h)
+        e f at_i at_j old new earlier agree means =
         let down = below now.nodes j f 0 part (Named label part) at_j new refl in
-        let inner = carried h e down.end old down.span (later_still pairs i j i part (omega arith) (omega (arith, down.behind)) earlier) agree (means_at n at_i means) in
+        let inner = carried h e down.end old down.span (later_still pairs i j i part (omega arith)
+        (omega (arith, down.behind)) earlier) agree (means_at n at_i means) in
         record { tree = named label inner.tree; means = means_named inner.means }
     node_carried (takes_by_rest {n = n} not_label) e f at_i at_j old new earlier {b = b} agree means =
         record { tree = bits b; means = means_rest (meant_bits was (means_at n at_i means)) }
-    node_carried (takes_choice {i = i} {j = j} {parts = parts} {pairs = pairs} other each) e f at_i at_j old new earlier agree (means_choice {j = k} {i = p} at means) =
+    node_carried (takes_choice {i = i} {j = j} {parts = parts} {pairs = pairs} other each)
+        e f at_i at_j old new earlier agree (means_choice {j = k} {i = p} at means) =
         let down = below was.nodes i e k p (Choice parts) at_i old at in
-        let inner = carried (each k p at) down.end f down.span new (later_still pairs i j p j (omega (arith, down.behind)) (omega arith) earlier) agree means in
+        let inner = carried (each k p at) down.end f down.span new
+        (later_still pairs i j p j (omega (arith, down.behind)) (omega arith) earlier) agree means in
         node_tree now at_j inner
     node_carried (takes_by_choice {i = i} {j = j} {others = others} {n = n} {pairs = pairs} k q other at h) e f at_i at_j old new earlier agree means =
         let down = below now.nodes j f k q (Choice others) at_j new at in
-        let inner = carried h e down.end old down.span (later_still pairs i j i q (omega arith) (omega (arith, down.behind)) earlier) agree (means_at n at_i means) in
+        let inner = carried h e down.end old down.span (later_still pairs i j i q (omega arith)
+        (omega (arith, down.behind)) earlier) agree (means_at n at_i means) in
         record { tree = alt k inner.tree; means = means_choice at inner.means }
     node_carried (takes_leaf {n = n} {m = m} h) e f at_i at_j old new earlier agree means = leaf_carried n m h agree means
     node_carried (takes_seq {i = i} {j = j} {pairs = pairs} h) e f at_i at_j old new earlier agree (means_seq means) =
-        let inner = parts_carried h e f (span_parts was.nodes at_i old) (span_parts now.nodes at_j new) (later_still pairs i j (suc i) (suc j) (omega arith) (omega arith) earlier) agree means in
+        let inner = parts_carried h e f (span_parts was.nodes at_i old) (span_parts now.nodes at_j new)
+        (later_still pairs i j (suc i) (suc j) (omega arith) (omega arith) earlier) agree means in
         record { tree = row inner.trees; means = means_seq inner.means }
-    node_carried (takes_times {i = i} {j = j} {p = p} {q = q} {count = count} {taker = taker} {pairs = pairs} counts h) e f at_i at_j old new earlier {v = v} {w = w} agree (means_times n is_n means) =
+    node_carried (takes_times {i = i} {j = j} {p = p} {q = q} {count = count} {taker = taker} {pairs = pairs}
+        counts h) e f at_i at_j old new earlier {v = v} {w = w} agree (means_times n is_n means) =
         let many = as_many pairs v w 1 1 n count taker agree counts is_n in
         let down = below was.nodes i e 0 p (Times count p) at_i old refl in
         let across = below now.nodes j f 0 q (Times taker q) at_j new refl in
@@ -155,9 +180,12 @@ module _ (was now : DescV) (readings : was.reading ≡ now.reading) where
         record { tree = row inner.trees; means = means_many inner.means }
     node_carried (takes_trunc h) e f at_i at_j old new earlier agree (means_cut void) = record { tree = row none; means = means_cut void }
     node_carried (takes_trunc {i = i} {j = j} {pairs = pairs} h) e f at_i at_j old new earlier agree (means_trunc means) =
-        let inner = lead_carried h e f (span_parts was.nodes at_i old) (span_parts now.nodes at_j new) (later_still pairs i j (suc i) (suc j) (omega arith) (omega arith) earlier) agree means in
+        let inner = lead_carried h e f (span_parts was.nodes at_i old) (span_parts now.nodes at_j new)
+        (later_still pairs i j (suc i) (suc j) (omega arith) (omega arith) earlier) agree means in
         record { tree = row inner.trees; means = means_trunc inner.means }
-    node_carried (takes_window {i = i} {j = j} {p = p} {q = q} {unit = unit} {other = other} {count = count} {taker = taker} {pairs = pairs} counts h) e f at_i at_j old new earlier {v = v} {w = w} agree (means_window n is_n wide means) =
+    node_carried (takes_window {i = i} {j = j} {p = p} {q = q} {unit = unit} {other = other} {count = count}
+        {taker = taker} {pairs = pairs} counts h) e f at_i at_j old new earlier {v = v} {w = w} agree
+        (means_window n is_n wide means) =
         let many = as_many pairs v w unit other n count taker agree counts is_n in
         let down = below was.nodes i e 0 p (Window unit count p) at_i old refl in
         let across = below now.nodes j f 0 q (Window other taker q) at_j new refl in
@@ -165,27 +193,43 @@ module _ (was now : DescV) (readings : was.reading ≡ now.reading) where
         let inner = carried h down.end across.end down.span across.span still agree means in
         record { tree = inner.tree; means = means_window many.amount many.counted (wide ∙ many.equal) inner.means }
 
-    parts_carried : {parts others : List ℕ} {pairs : List Pair} → PartsTake was now parts others pairs → {at to : ℕ} (e f : ℕ) → PartsSpan was.nodes parts at e → PartsSpan now.nodes others to f → AreEarlier pairs at to → {o : ℕ} {v w : Values} {b : List ℕ} {ts : Trees} → AgreeOn pairs v w → PartsMean was parts o v b ts → HasParts now others o w b
+    parts_carried : {parts others : List ℕ} {pairs : List Pair} → PartsTake was now parts others pairs
+        → {at to : ℕ} (e f : ℕ) → PartsSpan was.nodes parts at e → PartsSpan now.nodes others to f
+        → AreEarlier pairs at to → {o : ℕ} {v w : Values} {b : List ℕ} {ts : Trees}
+        → AgreeOn pairs v w → PartsMean was parts o v b ts → HasParts now others o w b
     parts_carried parts_taken e f old new earlier agree (parts_end void) = record { trees = none; means = parts_end void }
-    parts_carried (parts_take {p = p} {q = q} {pairs = pairs} h rest) {at = at} {to = to} e f (span_next middle is_at span later) (span_next center is_to wide behind) earlier {v = v} {w = w} agree (parts_next b1 b2 cut first others) =
+    parts_carried (parts_take {p = p} {q = q} {pairs = pairs} h rest) {at = at} {to = to} e f
+        (span_next middle is_at span later) (span_next center is_to wide behind) earlier {v = v} {w = w} agree
+        (parts_next b1 b2 cut first others) =
         let here = start pairs at to p q is_at is_to earlier in
         let inner = carried h middle center span wide here agree first in
-        let others_tree = parts_carried rest e f later behind (next_earlier was now pairs p q middle center (span_grows was.nodes span) (span_grows now.nodes wide) here) (next_agree was now pairs p q v w b1 here agree) others in
+        let others_tree = parts_carried rest e f later behind (next_earlier was now pairs p q middle center
+        (span_grows was.nodes span) (span_grows now.nodes wide) here)
+        (next_agree was now pairs p q v w b1 here agree) others in
         record { trees = more inner.tree others_tree.trees; means = parts_next b1 b2 cut inner.means others_tree.means }
     parts_carried (parts_taken_by_rest any) e f old new earlier {o = o} {w = w} {b = b} agree means =
         let inner = any_tree now o w b any (parts_are_bits was means) in
         record { trees = more inner.tree none; means = parts_next b [] (sym (append-nil b)) inner.means (parts_end refl) }
 
-    lead_carried : {parts others : List ℕ} {pairs : List Pair} → LeadTake was now parts others pairs → {at to : ℕ} (e f : ℕ) → PartsSpan was.nodes parts at e → PartsSpan now.nodes others to f → AreEarlier pairs at to → {o : ℕ} {v w : Values} {b : List ℕ} {ts : Trees} → AgreeOn pairs v w → LeadMean was parts o v b ts → HasLead now others o w b
+    lead_carried : {parts others : List ℕ} {pairs : List Pair} → LeadTake was now parts others pairs
+        → {at to : ℕ} (e f : ℕ) → PartsSpan was.nodes parts at e → PartsSpan now.nodes others to f
+        → AreEarlier pairs at to → {o : ℕ} {v w : Values} {b : List ℕ} {ts : Trees}
+        → AgreeOn pairs v w → LeadMean was parts o v b ts → HasLead now others o w b
     lead_carried lead_taken e f old new earlier agree means = elim means [ ]
-    lead_carried (lead_takes {p = p} {q = q} {pairs = pairs} h rest) {at = at} {to = to} e f (span_next middle is_at span later) (span_next center is_to wide behind) earlier {v = v} {w = w} agree (lead_last some means) =
+    lead_carried (lead_takes {p = p} {q = q} {pairs = pairs} h rest) {at = at} {to = to} e f
+        (span_next middle is_at span later) (span_next center is_to wide behind) earlier {v = v} {w = w} agree
+        (lead_last some means) =
         let here = start pairs at to p q is_at is_to earlier in
         let inner = carried h middle center span wide here agree means in
         record { trees = more inner.tree none; means = lead_last some inner.means }
-    lead_carried (lead_takes {p = p} {q = q} {pairs = pairs} h rest) {at = at} {to = to} e f (span_next middle is_at span later) (span_next center is_to wide behind) earlier {v = v} {w = w} agree (lead_next b1 b2 cut first others) =
+    lead_carried (lead_takes {p = p} {q = q} {pairs = pairs} h rest) {at = at} {to = to} e f
+        (span_next middle is_at span later) (span_next center is_to wide behind) earlier {v = v} {w = w} agree
+        (lead_next b1 b2 cut first others) =
         let here = start pairs at to p q is_at is_to earlier in
         let inner = carried h middle center span wide here agree first in
-        let others_tree = lead_carried rest e f later behind (next_earlier was now pairs p q middle center (span_grows was.nodes span) (span_grows now.nodes wide) here) (next_agree was now pairs p q v w b1 here agree) others in
+        let others_tree = lead_carried rest e f later behind (next_earlier was now pairs p q middle center
+        (span_grows was.nodes span) (span_grows now.nodes wide) here)
+        (next_agree was now pairs p q v w b1 here agree) others in
         record { trees = more inner.tree others_tree.trees; means = lead_next b1 b2 cut inner.means others_tree.means }
 
 pub blocks_taken : BlocksAreTaken

@@ -12,7 +12,8 @@ pub with_bits-none : (literal : Bool) (bits : List ℕ) → with_bits literal []
 with_bits-none true bits = refl
 with_bits-none false bits = append-nil bits
 
-pub with_bits-more : (literal : Bool) (bit : ℕ) (more bits : List ℕ) → with_bits literal more (with_bits literal (bit ∷ []) bits) ≡ with_bits literal (bit ∷ more) bits
+pub with_bits-more : (literal : Bool) (bit : ℕ) (more bits : List ℕ)
+    → with_bits literal more (with_bits literal (bit ∷ []) bits) ≡ with_bits literal (bit ∷ more) bits
 with_bits-more true bit more bits = refl
 with_bits-more false bit more bits = append_assoc bits (bit ∷ []) more
 
@@ -30,8 +31,12 @@ makes_on v u move node grows = record { before = v; old_is = refl; grows = grows
 pub told_on : (node : Node) (bits : List ℕ) (v : BuiltV) → BitsTold Makes node bits (Some v) (Some (took_all node bits v))
 told_on node [] v = ap Some (took_none node v)
 told_on node (bit ∷ bits) v =
-    let P : BuiltV → Type 0 = λ u. BitsTold Makes node bits (Some (took_all node (bit ∷ []) v)) (Some u) in
-    (Some (took_all node (bit ∷ []) v), makes_on v (took_all node (bit ∷ []) v) (Bit bit) node refl, subst P (took_more node bit bits v) (told_on node bits (took_all node (bit ∷ []) v)))
+    let P : BuiltV → Type 0 = λ u. BitsTold Makes node bits (Some (took_all node (bit ∷ []) v)) (Some u) in (
+      Some (took_all node (bit ∷ []) v),
+      makes_on v (took_all node (bit ∷ []) v) (Bit bit) node refl,
+      subst P
+          (took_more node bit bits v) (told_on node bits (took_all node (bit ∷ []) v)),
+    )
 
 -- nothing is made once memory was refused
 pub told_refused : (node : Node) (bits : List ℕ) → BitsTold Makes node bits None None
@@ -43,7 +48,8 @@ pub told_off : (node : Node) (bit : ℕ) (bits : List ℕ) (v : BuiltV) → Bits
 told_off node bit bits v = (None, tt, told_refused node bits)
 
 -- bits that the builder takes, which memory may be refused to
-pub told_taken : {E : Type 0} (r : Result (Unit {0}) E) (node : Node) (count number : ℕ) (v u : BuiltV) → OnOk r (u ≡ took_all node (low_bits count number) v) → OnErr r (0 < count)
+pub told_taken : {E : Type 0} (r : Result (Unit {0}) E) (node : Node) (count number : ℕ) (v u : BuiltV)
+    → OnOk r (u ≡ took_all node (low_bits count number) v) → OnErr r (0 < count)
     → BitsTold Makes node (low_bits count number) (Some v) (unless (is_err r) u)
 told_taken (Ok x) node count number v u ok some =
     let P : BuiltV → Type 0 = λ w. BitsTold Makes node (low_bits count number) (Some v) (Some w) in

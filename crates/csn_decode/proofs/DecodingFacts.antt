@@ -32,7 +32,8 @@ pub feeds : (old new : JudgeV) (before after : Option BuiltV) (more : List ℕ) 
     → Decodes (stands old before Going) (stands new after (answer_of says short)) more (answer_of says short)
 feeds old new before after more says short same =
     let T : List Move → DescV → Type 0 = λ moves d. Tells d Makes [] moves (opened new) (Some nothing) after in
-    following.feeds old new more (λ around made. Tells old.desc Makes (opened old) made around before after) (IsTold (stands old before Going)) (IsTold (stands new after Going))
+    following.feeds old new more (λ around made. Tells old.desc Makes (opened old) made around before after)
+    (IsTold (stands old before Going)) (IsTold (stands new after Going))
     (λ moves made told on. subst (T (moves ++ made)) (sym same) (tells-then old.desc told on)) says short same
 
 -- ---- at the end of a block
@@ -64,7 +65,10 @@ ends_tree j before after tree is one judges root b (comes_on moves going for tol
 
 -- the tree that a track has made, if there was memory for it
 pub ends_made : (j : JudgeV) (before after : Option BuiltV) (result : Result TreeV DecodeFault) → IsDescription j.desc → HasOneTree j.desc
-    → JudgeEnds (λ around made. Tells j.desc Makes (opened j) made around before after) j judged.Ok → IfOk result (λ tree. whole_of after ≡ Some tree) → IfErr result (λ why. why ≡ fault.NoMemory)
+    → JudgeEnds (λ around made. Tells j.desc Makes (opened j) made around before after) j judged.Ok
+    → IfOk result (λ tree. whole_of after ≡ Some tree) → IfErr result (λ why. why ≡ fault.NoMemory)
     → Ends (stands j before Going) result
 ends_made j before after (Ok tree) is one judges made wanting = ends_tree j before after tree is one judges made
-ends_made j before after (Err why) is one judges made wanting = subst (λ (f : DecodeFault). Ends (stands j before Going) (Err f)) (sym wanting) (ends_wanting j before after judges)
+ends_made j before after (Err why) is one judges made wanting =
+    subst (λ (f : DecodeFault). Ends (stands j before Going) (Err f)) (sym wanting)
+    (ends_wanting j before after judges)

@@ -8,7 +8,10 @@ use Rattle.csn_desc.specs.declared.node.Node.TheVariants.{Lits, Spare, Pad, Null
 use Rattle.csn_desc.specs.TreeV.{TreeV, empty, bits, row, alt, named, Trees, none, more, list_of, trees_of}
 use Rattle.csn_desc.specs.Nodes.{DescV, parts_of}
 use Rattle.csn_desc.specs.Formed.{Spans, PartsSpan, spans, span_next, IsDescription}
-use Rattle.csn_desc.specs.Walks.{Walk, NodeWalk, PartsWalk, RepeatsWalk, LeadWalk, walk_at, walk_lits, walk_spare, walk_pad, walk_null, walk_field, walk_rest, walk_seq, walk_choice, walk_times, walk_many, walk_trunc, walk_window, walk_named, parts_end, parts_next, repeats_end, repeats_next, lead_end, lead_next}
+use Rattle.csn_desc.specs.Walks.{Walk, NodeWalk, PartsWalk, RepeatsWalk, LeadWalk, walk_at, walk_lits, walk_spare}
+use Rattle.csn_desc.specs.Walks.{walk_pad, walk_null, walk_field, walk_rest, walk_seq, walk_choice, walk_times}
+use Rattle.csn_desc.specs.Walks.{walk_many, walk_trunc, walk_window, walk_named, parts_end, parts_next, repeats_end}
+use Rattle.csn_desc.specs.Walks.{repeats_next, lead_end, lead_next}
 use Rattle.csn_desc.proofs.Numbering.{parts_distinct, part_spans}
 use Rattle.csn_judge.specs.Told.{Tells, tells_none, tells_enter, tells_bit, tells_leave}
 use Rattle.csn_decode.specs.declared.open.Open.{Open}
@@ -66,7 +69,8 @@ module _ (d : DescV) where
     pub tells : Tells d Makes around rest others state new
     pub at : IsAt v state
 
-  moved_after : {v u : BuiltV} {around : List ℕ} {rest : List Move} {others : List ℕ} {new : Option BuiltV} → v ≡ u → After v around rest others new → After u around rest others new
+  moved_after : {v u : BuiltV} {around : List ℕ} {rest : List Move} {others : List ℕ} {new : Option BuiltV}
+      → v ≡ u → After v around rest others new → After u around rest others new
   moved_after {around = around} {rest = rest} {others = others} {new = new} e h =
       let P : BuiltV → Type 0 = λ x. After x around rest others new in
       subst P e h
@@ -77,7 +81,8 @@ module _ (d : DescV) where
     pub after : After before (i ∷ around) rest others new
     pub gives : (u : BuiltV) → Leaves node before u → u ≡ given i t v
 
-  tells_moved : {a b : List Move} {around others : List ℕ} {old new : Option BuiltV} → a ≡ b → Tells d Makes around a others old new → Tells d Makes around b others old new
+  tells_moved : {a b : List Move} {around others : List ℕ} {old new : Option BuiltV}
+      → a ≡ b → Tells d Makes around a others old new → Tells d Makes around b others old new
   tells_moved {around = around} {others = others} {old = old} {new = new} e h =
       let P : List Move → Type 0 = λ m. Tells d Makes around m others old new in
       subst P e h
@@ -90,14 +95,16 @@ module _ (d : DescV) where
       let P : Node → Type 0 = λ m. Makes old (Enter i) m next in
       record { state = next; tells = tells; at = next_at v (entered i n v) old next (Enter i) n here (subst P same makes) (λ w g. g) }
 
-  taking : {i bit : ℕ} {n : Node} {v : BuiltV} {moves : List Move} {around others : List ℕ} {old new : Option BuiltV} → slice_get d.nodes i ≡ Some n → IsAt v old
+  taking : {i bit : ℕ} {n : Node} {v : BuiltV} {moves : List Move} {around others : List ℕ} {old new : Option BuiltV}
+      → slice_get d.nodes i ≡ Some n → IsAt v old
       → Tells d Makes (i ∷ around) (Bit bit ∷ moves) others old new → After (took_all n (bit ∷ []) v) (i ∷ around) moves others new
   taking {i} {bit} {n} {v} {old = old} at here (tells_bit node next at2 makes tells) =
       let same : node ≡ n = cc in
       let P : Node → Type 0 = λ m. Makes old (Bit bit) m next in
       record { state = next; tells = tells; at = next_at v (took_all n (bit ∷ []) v) old next (Bit bit) n here (subst P same makes) (λ w g. g) }
 
-  leaving : {i : ℕ} {n : Node} {v u : BuiltV} {moves : List Move} {around others : List ℕ} {old new : Option BuiltV} → slice_get d.nodes i ≡ Some n → IsAt v old
+  leaving : {i : ℕ} {n : Node} {v u : BuiltV} {moves : List Move} {around others : List ℕ} {old new : Option BuiltV}
+      → slice_get d.nodes i ≡ Some n → IsAt v old
       → ((w : BuiltV) → Leaves n v w → w ≡ u)
       → Tells d Makes (i ∷ around) (Leave ∷ moves) others old new → After u around moves others new
   leaving {n = n} {v} {u} {old = old} at here one (tells_leave node next at2 makes tells) =
@@ -106,14 +113,16 @@ module _ (d : DescV) where
       record { state = next; tells = tells; at = next_at v u old next Leave n here (subst P same makes) one }
 
   -- the bits of a node
-  bits_grow : {i : ℕ} {n : Node} (b : List ℕ) (v : BuiltV) (rest : List Move) {around others : List ℕ} {old new : Option BuiltV} → slice_get d.nodes i ≡ Some n → IsAt v old
+  bits_grow : {i : ℕ} {n : Node} (b : List ℕ) (v : BuiltV) (rest : List Move) {around others : List ℕ}
+      {old new : Option BuiltV} → slice_get d.nodes i ≡ Some n → IsAt v old
       → Tells d Makes (i ∷ around) (map Bit b ++ rest) others old new → After (took_all n b v) (i ∷ around) rest others new
   bits_grow {n = n} [] v rest at here tells = moved_after (sym (took_none n v)) (record { state = _; tells = tells; at = here })
   bits_grow {n = n} (bit ∷ b) v rest at here tells =
       let first = taking {n = n} at here tells in
       moved_after (took_more n bit b v) (bits_grow b (took_all n (bit ∷ []) v) rest at first.at first.tells)
 
-  leaf_grows : (n : Node) (i : ℕ) (b : List ℕ) (t : TreeV) (v : BuiltV) (rest moves : List Move) {around others : List ℕ} {old new : Option BuiltV} → slice_get d.nodes i ≡ Some n
+  leaf_grows : (n : Node) (i : ℕ) (b : List ℕ) (t : TreeV) (v : BuiltV) (rest moves : List Move)
+      {around others : List ℕ} {old new : Option BuiltV} → slice_get d.nodes i ≡ Some n
       → begun n ≡ Leaf → bits_behind (has_bits n) (took_all n b v).bits ≡ v.bits → ((tree : TreeV) → IsTree n Leaf (took_all n b v).bits tree → tree ≡ t)
       → IsAt (entered i n v) old → moves ≡ map Bit b → Tells d Makes (i ∷ around) (moves ++ rest) others old new → Inner n i t v around rest others new
   leaf_grows n i b t v rest moves at leaf behind one here are tells =
@@ -138,7 +147,8 @@ module _ (d : DescV) where
 
   -- the trees of a row
   row_grows : (n : Node) (i : ℕ) (ts : Trees) (v : BuiltV) {rest : List Move} {around others : List ℕ} {new : Option BuiltV}
-      → has_bits n ≡ false → ((tree : TreeV) → IsTree n (Row (list_of ts)) v.bits tree → (us : List TreeV) × (Row (list_of ts) ≡ Row us) × (tree ≡ row (trees_of us)))
+      → has_bits n ≡ false → ((tree : TreeV) → IsTree n (Row (list_of ts)) v.bits tree → (us : List TreeV)
+      × (Row (list_of ts) ≡ Row us) × (tree ≡ row (trees_of us)))
       → After (inside_with i (Row (list_of ts)) v.bits v) (i ∷ around) rest others new → Inner n i (row ts) v around rest others new
   row_grows n i ts v leafless is there =
       record {
@@ -149,7 +159,8 @@ module _ (d : DescV) where
       }
 
   -- one tree more before the others of a row
-  one_more : (i : ℕ) (front : List TreeV) (t : TreeV) (ts : List TreeV) (v : BuiltV) → inside_with i (Row ((front ++ t ∷ []) ++ ts)) v.bits v ≡ inside_with i (Row (front ++ t ∷ ts)) v.bits v
+  one_more : (i : ℕ) (front : List TreeV) (t : TreeV) (ts : List TreeV) (v : BuiltV)
+      → inside_with i (Row ((front ++ t ∷ []) ++ ts)) v.bits v ≡ inside_with i (Row (front ++ t ∷ ts)) v.bits v
   one_more i front t ts v = ap (λ l. inside_with i (Row l) v.bits v) (append_assoc front (t ∷ []) ts)
 
   no_more : (i : ℕ) (front : List TreeV) (v : BuiltV) → inside_with i (Row front) v.bits v ≡ inside_with i (Row (front ++ [])) v.bits v
@@ -172,10 +183,12 @@ module _ (d : DescV) where
         let same : m ≡ n = cc in
         let P : Node → Type 0 = λ x. PartsSpan d.nodes (parts_of x) (suc i) end in
         let first = entering {n = n} {v = v} at here (tells_moved (ap (λ l. l ++ rest) are) tells) in
-        let inner = node_grows n i v (Leave ∷ rest) clear at (subst P same parts) h first.at (tells_moved (append_assoc inside (Leave ∷ []) rest) first.tells) in
+        let inner = node_grows n i v (Leave ∷ rest) clear at (subst P same parts) h first.at
+        (tells_moved (append_assoc inside (Leave ∷ []) rest) first.tells) in
         leaving {n = n} {v = inner.before} {u = given i t v} at inner.after.at inner.gives inner.after.tells
 
-    node_grows : (n : Node) (i : ℕ) {o at end : ℕ} {t : TreeV} {moves : List Move} (v : BuiltV) (rest : List Move) {around others : List ℕ} {old new : Option BuiltV}
+    node_grows : (n : Node) (i : ℕ) {o at end : ℕ} {t : TreeV} {moves : List Move} (v : BuiltV) (rest : List Move)
+        {around others : List ℕ} {old new : Option BuiltV}
         → v.bits ≡ [] → slice_get d.nodes i ≡ Some n → PartsSpan d.nodes (parts_of n) at end → NodeWalk d n o t moves → IsAt (entered i n v) old
         → Tells d Makes (i ∷ around) (moves ++ rest) others old new
         → Inner n i t v around rest others new
@@ -216,31 +229,37 @@ module _ (d : DescV) where
         (λ tree r. let same : r.0 ≡ record { node = part; tree = u } = cc in r.2 ∙ ap (λ (x : Ended). named label x.tree) same)
         (walk_grows (inside_with i (Part None) v.bits v) rest clear (only_part parts).1 h here tells)
 
-    parts_grow : (i : ℕ) (front : List TreeV) {parts : List ℕ} {o at end : ℕ} {ts : Trees} {moves : List Move} (v : BuiltV) (rest : List Move) {around others : List ℕ} {old new : Option BuiltV}
+    parts_grow : (i : ℕ) (front : List TreeV) {parts : List ℕ} {o at end : ℕ} {ts : Trees} {moves : List Move}
+        (v : BuiltV) (rest : List Move) {around others : List ℕ} {old new : Option BuiltV}
         → v.bits ≡ [] → PartsSpan d.nodes parts at end → PartsWalk d parts o ts moves → IsAt (inside_with i (Row front) v.bits v) old
         → Tells d Makes (i ∷ around) (moves ++ rest) others old new
         → After (inside_with i (Row (front ++ list_of ts)) v.bits v) (i ∷ around) rest others new
     parts_grow i front v rest clear span (parts_end are) here tells = row_ends i front v rest are here tells
     parts_grow i front v rest clear (span_next middle e span others) (parts_next {t = t} {ts = ts} first later are h hs) here tells =
-        let there = walk_grows (inside_with i (Row front) v.bits v) (later ++ rest) clear span h here (tells_moved (ap (λ l. l ++ rest) are ∙ append_assoc first later rest) tells) in
+        let there = walk_grows (inside_with i (Row front) v.bits v) (later ++ rest) clear span h here
+        (tells_moved (ap (λ l. l ++ rest) are ∙ append_assoc first later rest) tells) in
         moved_after (one_more i front t (list_of ts) v) (parts_grow i (front ++ t ∷ []) v rest clear others hs there.at there.tells)
 
-    repeats_grow : (i : ℕ) (front : List TreeV) {part o end : ℕ} {ts : Trees} {moves : List Move} (v : BuiltV) (rest : List Move) {around others : List ℕ} {old new : Option BuiltV}
+    repeats_grow : (i : ℕ) (front : List TreeV) {part o end : ℕ} {ts : Trees} {moves : List Move} (v : BuiltV)
+        (rest : List Move) {around others : List ℕ} {old new : Option BuiltV}
         → v.bits ≡ [] → Spans d.nodes part end → RepeatsWalk d part o ts moves → IsAt (inside_with i (Row front) v.bits v) old
         → Tells d Makes (i ∷ around) (moves ++ rest) others old new
         → After (inside_with i (Row (front ++ list_of ts)) v.bits v) (i ∷ around) rest others new
     repeats_grow i front v rest clear span (repeats_end are) here tells = row_ends i front v rest are here tells
     repeats_grow i front v rest clear span (repeats_next {t = t} {ts = ts} first later are h hs) here tells =
-        let there = walk_grows (inside_with i (Row front) v.bits v) (later ++ rest) clear span h here (tells_moved (ap (λ l. l ++ rest) are ∙ append_assoc first later rest) tells) in
+        let there = walk_grows (inside_with i (Row front) v.bits v) (later ++ rest) clear span h here
+        (tells_moved (ap (λ l. l ++ rest) are ∙ append_assoc first later rest) tells) in
         moved_after (one_more i front t (list_of ts) v) (repeats_grow i (front ++ t ∷ []) v rest clear span hs there.at there.tells)
 
-    lead_grows : (i : ℕ) (front : List TreeV) {parts : List ℕ} {o at end : ℕ} {ts : Trees} {moves : List Move} (v : BuiltV) (rest : List Move) {around others : List ℕ} {old new : Option BuiltV}
+    lead_grows : (i : ℕ) (front : List TreeV) {parts : List ℕ} {o at end : ℕ} {ts : Trees} {moves : List Move}
+        (v : BuiltV) (rest : List Move) {around others : List ℕ} {old new : Option BuiltV}
         → v.bits ≡ [] → LeadWalk d parts o ts moves → PartsSpan d.nodes parts at end → IsAt (inside_with i (Row front) v.bits v) old
         → Tells d Makes (i ∷ around) (moves ++ rest) others old new
         → After (inside_with i (Row (front ++ list_of ts)) v.bits v) (i ∷ around) rest others new
     lead_grows i front v rest clear (lead_end are) span here tells = row_ends i front v rest are here tells
     lead_grows i front v rest clear (lead_next {t = t} {ts = ts} first later are h hs) (span_next middle e span others) here tells =
-        let there = walk_grows (inside_with i (Row front) v.bits v) (later ++ rest) clear span h here (tells_moved (ap (λ l. l ++ rest) are ∙ append_assoc first later rest) tells) in
+        let there = walk_grows (inside_with i (Row front) v.bits v) (later ++ rest) clear span h here
+        (tells_moved (ap (λ l. l ++ rest) are ∙ append_assoc first later rest) tells) in
         moved_after (one_more i front t (list_of ts) v) (lead_grows i (front ++ t ∷ []) v rest clear hs others there.at there.tells)
 
   -- ---- the moves of a block
@@ -256,7 +275,8 @@ module _ (d : DescV) where
 
   -- ---- moves after others
 
-  pub tells-then : {around middle others : List ℕ} {first second : List Move} {old state new : Option BuiltV} → Tells d Makes around first middle old state → Tells d Makes middle second others state new
+  pub tells-then : {around middle others : List ℕ} {first second : List Move} {old state new : Option BuiltV}
+      → Tells d Makes around first middle old state → Tells d Makes middle second others state new
       → Tells d Makes around (first ++ second) others old new
   tells-then {around = around} {others = others} {second = second} {state = state} {new = new} (tells_none open_is new_is) later =
       let P : List ℕ → Type 0 = λ a. Tells d Makes a second others state new in

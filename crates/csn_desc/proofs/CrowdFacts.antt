@@ -1,5 +1,7 @@
 -- What the counted fields that see 64 counted fields are, node by node and part by part.
-use Rattle.std.proofs.Common.{◌≡◌, ℕ, zero, suc, ◌+◌, ◌<◌, ◌≤◌, Bool, true, false, if◌then◌else◌, List, [], ◌∷◌, length, drop, refl, sym, ◌∙◌, ap, subst, arith, Some, IsTrue, min, count_by, cond, ◌&&◌, nat_lt, ltb-true, ltb-false}
+use Rattle.std.proofs.Common.{◌≡◌, ℕ, zero, suc, ◌+◌, ◌<◌, ◌≤◌, Bool, true, false, if◌then◌else◌, List, [], ◌∷◌}
+use Rattle.std.proofs.Common.{length, drop, refl, sym, ◌∙◌, ap, subst, arith, Some, IsTrue, min, count_by, cond, ◌&&◌}
+use Rattle.std.proofs.Common.{nat_lt, ltb-true, ltb-false}
 use Rattle.std.proofs.lemmas.List.Sums.{sum_by-cons}
 use Rattle.std.specs.Prelude.{slice_get}
 use Rattle.csn_desc.specs.declared.node.Node.{Node}
@@ -8,7 +10,9 @@ use Rattle.csn_desc.specs.Values.{is_named}
 use Rattle.csn_desc.specs.Formed.{is_counted, shows_earlier, with_seen}
 use Rattle.csn_desc.specs.Overfull.{PartSees, part_here, part_later}
 use Rattle.csn_desc.specs.Laid.{Laid, PartsLaid, laid, laid_end, laid_next}
-use Rattle.csn_desc.specs.Crowds.{Below, below_here, below_part, Amounts, Crowded, Counting, Counts, NoneCrowded, FirstCrowded, CountingAmong, PartsCount, BelowPart, NoneCrowdedAmong, IsFirstAmong, FirstCrowdedAmong}
+use Rattle.csn_desc.specs.Crowds.{Below, below_here, below_part, Amounts, Crowded, Counting, Counts, NoneCrowded}
+use Rattle.csn_desc.specs.Crowds.{FirstCrowded, CountingAmong, PartsCount, BelowPart, NoneCrowdedAmong, IsFirstAmong}
+use Rattle.csn_desc.specs.Crowds.{FirstCrowdedAmong}
 use Rattle.csn_desc.proofs.WellFormed.{laid_behind, laid_deep, parts_behind}
 use Rattle.csn_desc.proofs.Entering.{get_within}
 
@@ -19,7 +23,8 @@ module _ (nodes : List Node) where
     first_here : k ≡ i → shown ≡ seen → First i seen k shown
     first_part : (n : Node) → slice_get nodes i ≡ Some n → BelowPart nodes (parts_of n) (shows_earlier n) seen k shown → First i seen k shown
 
-  sees_round : {shows : Bool} {parts : List ℕ} {k : ℕ} {shown : List ℕ} (round seen : List ℕ) → round ≡ seen → PartSees nodes shows round parts k shown → PartSees nodes shows seen parts k shown
+  sees_round : {shows : Bool} {parts : List ℕ} {k : ℕ} {shown : List ℕ} (round seen : List ℕ)
+      → round ≡ seen → PartSees nodes shows round parts k shown → PartSees nodes shows seen parts k shown
   sees_round {shows} {parts} {k} {shown} round seen e h = let P : List ℕ → Type 0 = λ l. PartSees nodes shows l parts k shown in subst P e h
 
   step_more :
@@ -87,11 +92,15 @@ module _ (nodes : List Node) where
       let there = later sees k (with_seen nodes sees i o) s b in (omega (arith, there.0, e, some), there.1)
 
   mutual
-    pub below_within : {seen : List ℕ} {round i end : ℕ} → Laid nodes seen round i end → (k : ℕ) (others shown : List ℕ) → Below nodes i others k shown → Within i end k
+    pub below_within : {seen : List ℕ} {round i end : ℕ}
+        → Laid nodes seen round i end → (k : ℕ) (others shown : List ℕ) → Below nodes i others k shown
+        → Within i end k
     below_within (laid n at deep head has parts) k others shown h =
         within_first n at (omega (arith, parts_behind nodes parts)) (λ sees j o s b. among_within parts sees j o s b) k others shown (below_step h)
 
-    pub among_within : {seen parts : List ℕ} {shows : Bool} {round at end : ℕ} → PartsLaid nodes shows seen round parts at end → (sees : Bool) (k : ℕ) (others shown : List ℕ) → BelowPart nodes parts sees others k shown → Within at end k
+    pub among_within : {seen parts : List ℕ} {shows : Bool} {round at end : ℕ}
+        → PartsLaid nodes shows seen round parts at end → (sees : Bool) (k : ℕ) (others shown : List ℕ)
+        → BelowPart nodes parts sees others k shown → Within at end k
     among_within (laid_end e) sees k others shown h = none_sees h
     among_within (laid_next middle e h rest) sees k others shown b =
         within_part e (laid_behind nodes h) (parts_behind nodes rest) (λ j o s c. below_within h j o s c) (λ t j o s c. among_within rest t j o s c)
@@ -104,14 +113,17 @@ module _ (nodes : List Node) where
 
   -- ---- from parts to their node
 
-  counting_laid : {i deep end : ℕ} {seen : List ℕ} (n : Node) → slice_get nodes i ≡ Some n → Laid nodes seen deep i end → PartsLaid nodes (shows_earlier n) seen (suc deep) (parts_of n) (suc i) end
+  counting_laid : {i deep end : ℕ} {seen : List ℕ} (n : Node)
+      → slice_get nodes i ≡ Some n → Laid nodes seen deep i end → PartsLaid nodes (shows_earlier n) seen (suc deep)
+      (parts_of n) (suc i) end
   counting_laid {i} {deep} {end} {seen} n at (laid m is few head has parts) =
       let same : m ≡ n = cc in
       let P : Node → Type 0 = λ k. PartsLaid nodes (shows_earlier k) seen (suc deep) (parts_of k) (suc i) end in
       subst P same parts
 
   counting_parts :
-      {i before deep : ℕ} {parts : List ℕ} {shows : Bool} {seen : List ℕ} (n : Node) → slice_get nodes i ≡ Some n → parts_of n ≡ parts → shows_earlier n ≡ shows
+      {i before deep : ℕ} {parts : List ℕ} {shows : Bool} {seen : List ℕ} (n : Node)
+      → slice_get nodes i ≡ Some n → parts_of n ≡ parts → shows_earlier n ≡ shows
       → Counting nodes i before deep seen → CountingAmong nodes parts shows before (suc deep) seen
   counting_parts {i} {before} {deep} {parts} {shows} {seen} n at parts_are shows_is c =
       let P : List ℕ → Type 0 = λ l. PartsLaid nodes shows seen (suc deep) l (suc i) c.end in
@@ -135,7 +147,8 @@ module _ (nodes : List Node) where
       apart (omega (arith, amount, full, counts)) (subst P here crowded.counted)
 
   in_parts :
-      (i : ℕ) {parts seen : List ℕ} {shows : Bool} {k : ℕ} {shown : List ℕ} (n : Node) → slice_get nodes i ≡ Some n → parts_of n ≡ parts → shows_earlier n ≡ shows
+      (i : ℕ) {parts seen : List ℕ} {shows : Bool} {k : ℕ} {shown : List ℕ} (n : Node)
+      → slice_get nodes i ≡ Some n → parts_of n ≡ parts → shows_earlier n ≡ shows
       → (m : Node) → slice_get nodes i ≡ Some m → BelowPart nodes (parts_of m) (shows_earlier m) seen k shown → BelowPart nodes parts shows seen k shown
   in_parts i {parts = parts} {seen = seen} {shows = shows} {k = k} {shown = shown} n at parts_are shows_is m is b =
       let same : m ≡ n = cc in
@@ -144,8 +157,10 @@ module _ (nodes : List Node) where
       let R : Node → Type 0 = λ x. BelowPart nodes (parts_of x) (shows_earlier x) seen k shown in
       subst P parts_are (subst Q shows_is (subst R same b))
 
-  module _ (i before deep : ℕ) (parts : List ℕ) (shows : Bool) (n : Node) (at : slice_get nodes i ≡ Some n) (parts_are : parts_of n ≡ parts) (shows_is : shows_earlier n ≡ shows) (apart : NotHere i before) where
-    none_first : (seen : List ℕ) → Counting nodes i before deep seen → NoneCrowdedAmong nodes parts shows before (suc deep) → (k : ℕ) (shown : List ℕ) → First i seen k shown → Crowded nodes k shown → ⊥
+  module _ (i before deep : ℕ) (parts : List ℕ) (shows : Bool) (n : Node) (at : slice_get nodes i ≡ Some n)
+      (parts_are : parts_of n ≡ parts) (shows_is : shows_earlier n ≡ shows) (apart : NotHere i before) where
+    none_first : (seen : List ℕ) → Counting nodes i before deep seen → NoneCrowdedAmong nodes parts shows before
+        (suc deep) → (k : ℕ) (shown : List ℕ) → First i seen k shown → Crowded nodes k shown → ⊥
     none_first seen c none k shown (first_here e f) crowded = full_before apart c.amount e f crowded
     none_first seen c none k shown (first_part m is b) crowded =
         none seen (counting_parts n at parts_are shows_is c) k shown (in_parts i n at parts_are shows_is m is b) crowded
@@ -159,7 +174,8 @@ module _ (nodes : List Node) where
         let Q : Bool → Type 0 = λ s. PartSees nodes s seen parts b.part b.round in
         below_join n b.part b.round at (subst P (sym parts_are) (subst Q (sym shows_is) b.sees)) b.below
 
-    first_of_all : (seen : List ℕ) (j : ℕ) → Counting nodes i before deep seen → IsFirstAmong nodes parts shows seen j → (k : ℕ) (others : List ℕ) → First i seen k others → Crowded nodes k others → j ≤ k
+    first_of_all : (seen : List ℕ) (j : ℕ) → Counting nodes i before deep seen → IsFirstAmong nodes parts shows seen j
+        → (k : ℕ) (others : List ℕ) → First i seen k others → Crowded nodes k others → j ≤ k
     first_of_all seen j c f k others (first_here e same) crowded = absurd (full_before apart c.amount e same crowded)
     first_of_all seen j c f k others (first_part m is b) crowded = f.first k others (in_parts i n at parts_are shows_is m is b) crowded
 
@@ -190,7 +206,9 @@ module _ (nodes : List Node) where
   only_part (in_first b) = b
   only_part (in_rest b) = none_sees b
 
-  counting_only : {p before deep : ℕ} {shows : Bool} {rest seen : List ℕ} {at end : ℕ} → Amounts nodes seen before → PartsLaid nodes shows seen deep (p ∷ rest) at end → Counting nodes p before deep seen
+  counting_only : {p before deep : ℕ} {shows : Bool} {rest seen : List ℕ} {at end : ℕ}
+      → Amounts nodes seen before → PartsLaid nodes shows seen deep (p ∷ rest) at end
+      → Counting nodes p before deep seen
   counting_only amount (laid_next middle e h rest) = record { end = middle; laid = h; amount = amount }
 
   pub counts_only : {p before deep : ℕ} {shows : Bool} {rest : List ℕ} → PartsCount nodes (p ∷ rest) shows before deep → Counts nodes p before deep
@@ -219,7 +237,8 @@ module _ (nodes : List Node) where
     pub end : ℕ
     pub laid : PartsLaid nodes shows now deep (drop done parts) at end
     pub amount : Amounts nodes now before
-    pub later : (k : ℕ) (shown : List ℕ) → BelowPart nodes parts shows seen k shown → Crowded nodes k shown → BelowPart nodes (drop done parts) shows now k shown
+    pub later : (k : ℕ) (shown : List ℕ) → BelowPart nodes parts shows seen k shown → Crowded nodes k shown
+        → BelowPart nodes (drop done parts) shows now k shown
     pub into : (k : ℕ) (shown : List ℕ) → BelowPart nodes (drop done parts) shows now k shown → BelowPart nodes parts shows seen k shown
 
   abbrev pub GoesOn : List ℕ → Bool → ℕ → ℕ → ℕ → ℕ → Type 0
@@ -235,10 +254,14 @@ module _ (nodes : List Node) where
   drop_step (p ∷ parts) zero part at = let same : p ≡ part = cc in ap (λ k. k ∷ parts) same
   drop_step (p ∷ parts) (suc done) part at = drop_step parts done part at
 
-  pub later_sees : {part : ℕ} {rest : List ℕ} {shows : Bool} {now : List ℕ} {k : ℕ} {shown : List ℕ} → BelowPart nodes rest shows (with_seen nodes shows part now) k shown → BelowPart nodes (part ∷ rest) shows now k shown
+  pub later_sees : {part : ℕ} {rest : List ℕ} {shows : Bool} {now : List ℕ} {k : ℕ} {shown : List ℕ}
+      → BelowPart nodes rest shows (with_seen nodes shows part now) k shown → BelowPart nodes (part ∷ rest)
+      shows now k shown
   later_sees b = record { part = b.part; round = b.round; sees = part_later b.sees; below = b.below }
 
-  not_first : {part : ℕ} {rest : List ℕ} {shows : Bool} {now : List ℕ} {k : ℕ} {shown : List ℕ} → (Below nodes part now k shown → ⊥) → FirstPart part rest shows now k shown → BelowPart nodes rest shows (with_seen nodes shows part now) k shown
+  not_first : {part : ℕ} {rest : List ℕ} {shows : Bool} {now : List ℕ} {k : ℕ} {shown : List ℕ}
+      → (Below nodes part now k shown → ⊥) → FirstPart part rest shows now k shown
+      → BelowPart nodes rest shows (with_seen nodes shows part now) k shown
   not_first apart (in_first b) = absurd (apart b)
   not_first apart (in_rest b) = b
 
@@ -246,19 +269,25 @@ module _ (nodes : List Node) where
     split : drop done parts ≡ part ∷ drop (suc done) parts
     split = drop_step parts done part at
 
-    laid_split : {now : List ℕ} {from end : ℕ} → PartsLaid nodes shows now deep (drop done parts) from end → PartsLaid nodes shows now deep (part ∷ drop (suc done) parts) from end
+    laid_split : {now : List ℕ} {from end : ℕ} → PartsLaid nodes shows now deep (drop done parts) from end
+        → PartsLaid nodes shows now deep (part ∷ drop (suc done) parts) from end
     laid_split {now} {from} {end} h = let P : List ℕ → Type 0 = λ l. PartsLaid nodes shows now deep l from end in subst P split h
 
-    below_split : {now : List ℕ} {k : ℕ} {shown : List ℕ} → BelowPart nodes (drop done parts) shows now k shown → BelowPart nodes (part ∷ drop (suc done) parts) shows now k shown
+    below_split : {now : List ℕ} {k : ℕ} {shown : List ℕ} → BelowPart nodes (drop done parts) shows now k shown
+        → BelowPart nodes (part ∷ drop (suc done) parts) shows now k shown
     below_split {now} {k} {shown} b = let P : List ℕ → Type 0 = λ l. BelowPart nodes l shows now k shown in subst P split b
 
-    below_whole : {now : List ℕ} {k : ℕ} {shown : List ℕ} → BelowPart nodes (part ∷ drop (suc done) parts) shows now k shown → BelowPart nodes (drop done parts) shows now k shown
+    below_whole : {now : List ℕ} {k : ℕ} {shown : List ℕ}
+        → BelowPart nodes (part ∷ drop (suc done) parts) shows now k shown → BelowPart nodes (drop done parts)
+        shows now k shown
     below_whole {now} {k} {shown} b = let P : List ℕ → Type 0 = λ l. BelowPart nodes l shows now k shown in subst P (sym split) b
 
     pub counts_next : {start before : ℕ} → GoesOn parts shows start deep done before → PartsCount nodes parts shows start deep → Counts nodes part before deep
     counts_next goes c = let g = goes c.0 c.1 in (g.now, counting_only g.amount (laid_split g.laid))
 
-    rest_laid : {now : List ℕ} {from end : ℕ} → PartsLaid nodes shows now deep (part ∷ drop (suc done) parts) from end → (middle : ℕ) × Laid nodes now deep part middle × PartsLaid nodes shows (with_seen nodes shows part now) deep (drop (suc done) parts) middle end
+    rest_laid : {now : List ℕ} {from end : ℕ} → PartsLaid nodes shows now deep (part ∷ drop (suc done) parts) from end
+        → (middle : ℕ) × Laid nodes now deep part middle × PartsLaid nodes shows (with_seen nodes shows part now) deep
+        (drop (suc done) parts) middle end
     rest_laid (laid_next middle e h rest) = (middle, h, rest)
 
     pub goes_on :
@@ -312,7 +341,9 @@ module _ (nodes : List Node) where
   drop_all (p ∷ parts) zero h = absurd (omega (arith, h))
   drop_all (p ∷ parts) (suc done) h = drop_all parts done (omega (arith, h))
 
-  pub none_found : (parts : List ℕ) (shows : Bool) (start deep done before : ℕ) → length parts ≤ done → GoesOn parts shows start deep done before → NoneCrowdedAmong nodes parts shows start deep
+  pub none_found : (parts : List ℕ) (shows : Bool) (start deep done before : ℕ)
+      → length parts ≤ done → GoesOn parts shows start deep done before
+      → NoneCrowdedAmong nodes parts shows start deep
   none_found parts shows start deep done before all goes seen c k shown b crowded =
       let g = goes seen c in
       let P : List ℕ → Type 0 = λ l. BelowPart nodes l shows g.now k shown in
@@ -337,12 +368,15 @@ module _ (nodes : List Node) where
   count_more : (p : ℕ → Bool) (x : ℕ) (xs : List ℕ) → count_by p (x ∷ xs) ≡ cond (p x) 1 0 + count_by p xs
   count_more p x xs = sum_by-cons (λ k. cond (p k) 1 0) x xs
 
-  amount_more : (b : Bool) (part seen after : ℕ) (now : List ℕ) → is_counted nodes part ≡ b → Amounts nodes now seen → after ≡ (if b && nat_lt seen 64 then seen + 1 else seen) → Amounts nodes (part ∷ now) after
+  amount_more : (b : Bool) (part seen after : ℕ) (now : List ℕ) → is_counted nodes part ≡ b → Amounts nodes now seen
+      → after ≡ (if b && nat_lt seen 64 then seen + 1 else seen) → Amounts nodes (part ∷ now) after
   amount_more true part seen after now counted amount is =
-      let more : count_by (is_counted nodes) (part ∷ now) ≡ 1 + count_by (is_counted nodes) now = count_more (is_counted nodes) part now ∙ ap (λ b. cond b 1 0 + count_by (is_counted nodes) now) counted in
+      let more : count_by (is_counted nodes) (part ∷ now) ≡ 1 + count_by (is_counted nodes) now =
+      count_more (is_counted nodes) part now ∙ ap (λ b. cond b 1 0 + count_by (is_counted nodes) now) counted in
       by_room (nat_lt seen 64) refl more
     where
-      by_room : (b : Bool) → nat_lt seen 64 ≡ b → count_by (is_counted nodes) (part ∷ now) ≡ 1 + count_by (is_counted nodes) now → after ≡ min 64 (count_by (is_counted nodes) (part ∷ now))
+      by_room : (b : Bool) → nat_lt seen 64 ≡ b → count_by (is_counted nodes) (part ∷ now) ≡ 1 + count_by
+          (is_counted nodes) now → after ≡ min 64 (count_by (is_counted nodes) (part ∷ now))
       by_room true e more =
           let room : seen < 64 = ltb-true seen 64 e in
           let next : after ≡ seen + 1 = is ∙ ap (λ b. if b then seen + 1 else seen) e in
@@ -352,10 +386,14 @@ module _ (nodes : List Node) where
           let next : after ≡ seen = is ∙ ap (λ b. if b then seen + 1 else seen) e in
           omega (arith, amount, more, full, next)
   amount_more false part seen after now counted amount is =
-      let more : count_by (is_counted nodes) (part ∷ now) ≡ 0 + count_by (is_counted nodes) now = count_more (is_counted nodes) part now ∙ ap (λ b. cond b 1 0 + count_by (is_counted nodes) now) counted in
+      let more : count_by (is_counted nodes) (part ∷ now) ≡ 0 + count_by (is_counted nodes) now =
+      count_more (is_counted nodes) part now ∙ ap (λ b. cond b 1 0 + count_by (is_counted nodes) now) counted in
       omega (arith, amount, more, is)
 
-  amount_named : (named : Bool) (part seen after : ℕ) (now : List ℕ) → is_named nodes part ≡ named → Amounts nodes now seen → after ≡ (if named && (is_counted nodes part && nat_lt seen 64) then seen + 1 else seen) → Amounts nodes (if named then part ∷ now else now) after
+  amount_named : (named : Bool) (part seen after : ℕ) (now : List ℕ)
+      → is_named nodes part ≡ named → Amounts nodes now seen
+      → after ≡ (if named && (is_counted nodes part && nat_lt seen 64) then seen + 1 else seen)
+      → Amounts nodes (if named then part ∷ now else now) after
   amount_named true part seen after now is amount next = amount_more (is_counted nodes part) part seen after now refl amount next
   amount_named false part seen after now is amount next = next ∙ amount
 

@@ -1,6 +1,7 @@
 -- Whether bits have a tree at a node, and whether it follows them, is decided: parts stand behind their node,
 -- and bits are cut in two in so many ways.
-use Rattle.std.proofs.Common.{◌≡◌, ℕ, zero, suc, ◌+◌, ◌-◌, ◌*◌, ◌<◌, ◌≤◌, ◌⊎◌, inl, inr, List, [], ◌∷◌, ◌++◌, length, refl, sym, ap, ◌∙◌, subst, arith, append-nil, length-append, Option, Some, None}
+use Rattle.std.proofs.Common.{◌≡◌, ℕ, zero, suc, ◌+◌, ◌-◌, ◌*◌, ◌<◌, ◌≤◌, ◌⊎◌, inl, inr, List, [], ◌∷◌, ◌++◌, length}
+use Rattle.std.proofs.Common.{refl, sym, ap, ◌∙◌, subst, arith, append-nil, length-append, Option, Some, None}
 use Rattle.std.specs.Prelude.{slice_get, replicate}
 use Rattle.std.proofs.lemmas.Bool.{cases_lt}
 use Rattle.std.proofs.lemmas.List.{length-replicate, nil_from_length}
@@ -17,8 +18,16 @@ use Rattle.csn_desc.specs.TreeV.{TreeV, empty, bits, row, alt, named, Trees, non
 use Rattle.csn_desc.specs.Nodes.{DescV, parts_of}
 use Rattle.csn_desc.specs.Spelled.{spelled, symbol_bit, IsSpare}
 use Rattle.csn_desc.specs.Values.{Values, count_of, with_value}
-use Rattle.csn_desc.specs.Means.{NMeans, NodeMeans, PartsMean, TimesMean, ManyMean, LeadMean, means_at, means_lits, means_spare, means_pad, means_null, means_field, means_rest, means_seq, means_choice, means_times, means_many, means_cut, means_trunc, means_window, means_named, parts_end, parts_next, times_end, times_next, many_end, many_next, lead_last, lead_next}
-use Rattle.csn_desc.specs.Follows.{NFollow, NodeFollows, PartsFollow, TimesFollow, ManyFollow, follows_at, follows_whole, follows_lits, follows_spare, follows_pad, follows_field, follows_seq, follows_choice, follows_times, follows_many, follows_trunc, follows_window, follows_named, parts_here, parts_later, times_here, times_later, many_here, many_later}
+use Rattle.csn_desc.specs.Means.{NMeans, NodeMeans, PartsMean, TimesMean, ManyMean, LeadMean, means_at, means_lits}
+use Rattle.csn_desc.specs.Means.{means_spare, means_pad, means_null, means_field, means_rest, means_seq, means_choice}
+use Rattle.csn_desc.specs.Means.{means_times, means_many, means_cut, means_trunc, means_window, means_named}
+use Rattle.csn_desc.specs.Means.{parts_end, parts_next, times_end, times_next, many_end, many_next, lead_last}
+use Rattle.csn_desc.specs.Means.{lead_next}
+use Rattle.csn_desc.specs.Follows.{NFollow, NodeFollows, PartsFollow, TimesFollow, ManyFollow, follows_at}
+use Rattle.csn_desc.specs.Follows.{follows_whole, follows_lits, follows_spare, follows_pad, follows_field}
+use Rattle.csn_desc.specs.Follows.{follows_seq, follows_choice, follows_times, follows_many, follows_trunc}
+use Rattle.csn_desc.specs.Follows.{follows_window, follows_named, parts_here, parts_later, times_here, times_later}
+use Rattle.csn_desc.specs.Follows.{many_here, many_later}
 use Rattle.csn_desc.specs.Formed.{Spans, PartsSpan, spans, span_end, span_next}
 use Rattle.csn_desc.proofs.BitFacts.{IsBits-front, IsBits-along, spelled_is_spare}
 use Rattle.csn_desc.proofs.Nodewise.{meaning_at, follow_at}
@@ -133,7 +142,8 @@ record One (P : ℕ → Type 0) (parts : List ℕ) : Type 0 where
   at : slice_get parts number ≡ Some part
   holds : P part
 
-one_decided : {P : ℕ → ℕ → Values → List ℕ → Type 0} {parts : List ℕ} → Tested P parts → (o : ℕ) (v : Values) (b : List ℕ) → Decided (One (λ i. P i o v b) parts)
+one_decided : {P : ℕ → ℕ → Values → List ℕ → Type 0} {parts : List ℕ}
+    → Tested P parts → (o : ℕ) (v : Values) (b : List ℕ) → Decided (One (λ i. P i o v b) parts)
 one_decided tested_end o v b = inr (λ w. let at = w.at in cc)
 one_decided {P} (tested_next {i = i} {parts = parts} test rest) o v b =
     elim (test o v b) [
@@ -229,7 +239,8 @@ module _ (d : DescV) where
         ended (times_end is e) = e
         ended (times_next m is b1 b2 e h others) = cc
     times_decided (suc m) o b =
-        decided_by (cut_decided (Next i o v (TimesBehind m i o v)) b (λ x y e. next_decided (TimesBehind m i o v) x y (test o x) (times_decided m (o + length x) y)))
+        decided_by (cut_decided (Next i o v (TimesBehind m i o v)) b (λ x y e. next_decided (TimesBehind m i o v) x y
+        (test o x) (times_decided m (o + length x) y)))
         (λ w. (more w.holds.tree w.holds.trees, times_next m refl w.front w.back w.is w.holds.first w.holds.behind)) (λ w. cut w.1)
       where
         cut : {ts : Trees} → TimesMean d (suc m) i o v b ts → Cut (Next i o v (TimesBehind m i o v)) b
@@ -302,7 +313,8 @@ module _ (d : DescV) where
       back : {t : TreeV} → NodeMeans d Null o v b t → b ≡ []
       back (means_null e) = e
   node_decided (Field unit count) parts o v b =
-      decided_by (counted_decided (λ n. (length b ≡ unit * n) × IsBits b) (count_of v count) (λ n. both_decided (same_number (length b) (unit * n)) (are_bits b)))
+      decided_by (counted_decided (λ n. (length b ≡ unit * n) × IsBits b) (count_of v count)
+      (λ n. both_decided (same_number (length b) (unit * n)) (are_bits b)))
       (λ w. (bits b, means_field w.0 w.1 w.2.0 w.2.1)) (λ w. back w.1)
     where
       back : {t : TreeV} → NodeMeans d (Field unit count) o v b t → (n : ℕ) × (count_of v count ≡ Some n) × ((length b ≡ unit * n) × IsBits b)
@@ -341,7 +353,8 @@ module _ (d : DescV) where
       back some (means_cut e) = absurd (some e)
       back some (means_trunc {ts = ts} h) = (ts, h)
   node_decided (Window unit count i) (tested_next test rest) o v b =
-      decided_by (counted_decided (λ n. (length b ≡ unit * n) × HasTree i o v b) (count_of v count) (λ n. both_decided (same_number (length b) (unit * n)) (test o v b)))
+      decided_by (counted_decided (λ n. (length b ≡ unit * n) × HasTree i o v b) (count_of v count)
+      (λ n. both_decided (same_number (length b) (unit * n)) (test o v b)))
       (λ w. (w.2.1.0, means_window w.0 w.1 w.2.0 w.2.1.1)) (λ w. back w.1)
     where
       back : {t : TreeV} → NodeMeans d (Window unit count i) o v b t → (n : ℕ) × (count_of v count ≡ Some n) × ((length b ≡ unit * n) × HasTree i o v b)
@@ -428,7 +441,8 @@ module _ (d : DescV) where
     many_follow zero o b few =
         elim (follow o b) [
           | inl here ↦ inl (many_here here)
-          | inr never ↦ inr (λ h. let w = free_cut never h in let some = w.holds.0 in absurd (omega (arith, few, some, ap length w.is, length-append w.front w.back)))
+          | inr never ↦ inr (λ h. let w = free_cut never h in let some = w.holds.0 in
+              absurd (omega (arith, few, some, ap length w.is, length-append w.front w.back)))
         ]
     many_follow (suc most) o b few =
         elim (follow o b) [
@@ -465,10 +479,13 @@ module _ (d : DescV) where
   no_rest whole (x ∷ b) (y ∷ rest) e one some = absurd (omega (arith, ap length e, one, length-append b (y ∷ rest)))
 
   -- a field whose first bits these are
-  field_begun : (unit : ℕ) (count : Count) (o : ℕ) (v : Values) (b : List ℕ) (n : ℕ) → count_of v count ≡ Some n → length b ≤ unit * n → IsBits b → NodeFollows d (Field unit count) o v b
+  field_begun : (unit : ℕ) (count : Count) (o : ℕ) (v : Values) (b : List ℕ) (n : ℕ)
+      → count_of v count ≡ Some n → length b ≤ unit * n → IsBits b → NodeFollows d (Field unit count) o v b
   field_begun unit count o v b n is few are =
       let zeros : List ℕ = replicate (unit * n - length b) 0 in
-      let long : length (b ++ zeros) ≡ unit * n = length-append b zeros ∙ (let l : length zeros ≡ unit * n - length b = length-replicate (unit * n - length b) 0 in omega (arith, l, few)) in
+      let long : length (b ++ zeros) ≡ unit * n = length-append b zeros
+      ∙ (let l : length zeros ≡ unit * n - length b = length-replicate (unit * n - length b) 0 in
+      omega (arith, l, few)) in
       follows_field (b ++ zeros) zeros refl (means_field n is long (IsBits-append b zeros are (IsBits-zeros (unit * n - length b))))
 
   lits_follow : (run : List Symbol) (o : ℕ) (v : Values) (b : List ℕ) → ¬ NodeHasTree (Lits run) o v b → Decided (NodeFollows d (Lits run) o v b)
@@ -523,12 +540,14 @@ module _ (d : DescV) where
       refuse some (follows_whole t h) = never (t, h)
       refuse some (follows_pad whole rest e h) = whole_pad whole rest some e h
 
-  field_follows : (unit : ℕ) (count : Count) (o : ℕ) (v : Values) (b : List ℕ) → ¬ NodeHasTree (Field unit count) o v b → Decided (NodeFollows d (Field unit count) o v b)
+  field_follows : (unit : ℕ) (count : Count) (o : ℕ) (v : Values) (b : List ℕ)
+      → ¬ NodeHasTree (Field unit count) o v b → Decided (NodeFollows d (Field unit count) o v b)
   field_follows unit count o v b never =
       decided_by (counted_decided (λ n. (length b ≤ unit * n) × IsBits b) (count_of v count) (λ n. both_decided (is_most (length b) (unit * n)) (are_bits b)))
       (λ w. field_begun unit count o v b w.0 w.1 w.2.0 w.2.1) (λ h. back h)
     where
-      front : {t : TreeV} (whole rest : List ℕ) → whole ≡ b ++ rest → NodeMeans d (Field unit count) o v whole t → (n : ℕ) × (count_of v count ≡ Some n) × ((length b ≤ unit * n) × IsBits b)
+      front : {t : TreeV} (whole rest : List ℕ) → whole ≡ b ++ rest → NodeMeans d (Field unit count) o v whole t
+          → (n : ℕ) × (count_of v count ≡ Some n) × ((length b ≤ unit * n) × IsBits b)
       front whole rest e (means_field n is wide are) =
           (n, is, (omega (arith, wide, ap length e, length-append b rest), IsBits-front b rest (IsBits-along (sym e) are)))
 
@@ -539,7 +558,8 @@ module _ (d : DescV) where
   -- ---- a node
 
   -- what a node follows that has no tree for the bits
-  begun_decided : (n : Node) → Tested HasTree (parts_of n) → Tested (NFollow d) (parts_of n) → (o : ℕ) (v : Values) (b : List ℕ) → ¬ NodeHasTree n o v b → Decided (NodeFollows d n o v b)
+  begun_decided : (n : Node) → Tested HasTree (parts_of n) → Tested (NFollow d) (parts_of n)
+      → (o : ℕ) (v : Values) (b : List ℕ) → ¬ NodeHasTree n o v b → Decided (NodeFollows d n o v b)
   begun_decided (Lits run) trees follows o v b never = lits_follow run o v b never
   begun_decided (Spare s) trees follows o v b never = spare_follows s o v b never
   begun_decided Pad trees follows o v b never = pad_follows o v b never
@@ -582,7 +602,8 @@ module _ (d : DescV) where
       back (follows_whole t h) = absurd (never (t, h))
       back (follows_trunc h) = h
   begun_decided (Window unit count i) trees (tested_next follow later) o v b never =
-      decided_by (counted_decided (λ n. (length b ≤ unit * n) × NFollow d i o v b) (count_of v count) (λ n. both_decided (is_most (length b) (unit * n)) (follow o v b)))
+      decided_by (counted_decided (λ n. (length b ≤ unit * n) × NFollow d i o v b) (count_of v count)
+      (λ n. both_decided (is_most (length b) (unit * n)) (follow o v b)))
       (λ w. follows_window w.0 w.1 w.2.0 w.2.1) (λ h. back h)
     where
       back : NodeFollows d (Window unit count i) o v b → (n : ℕ) × (count_of v count ≡ Some n) × ((length b ≤ unit * n) × NFollow d i o v b)
@@ -594,7 +615,8 @@ module _ (d : DescV) where
       back (follows_whole t h) = absurd (never (t, h))
       back (follows_named h) = h
 
-  node_follows : (n : Node) → Tested HasTree (parts_of n) → Tested (NFollow d) (parts_of n) → (o : ℕ) (v : Values) (b : List ℕ) → Decided (NodeFollows d n o v b)
+  node_follows : (n : Node) → Tested HasTree (parts_of n) → Tested (NFollow d) (parts_of n)
+      → (o : ℕ) (v : Values) (b : List ℕ) → Decided (NodeFollows d n o v b)
   node_follows n trees follows o v b =
       elim (node_decided n trees o v b) [ inl whole ↦ inl (follows_whole whole.0 whole.1) | inr never ↦ begun_decided n trees follows o v b never ]
 

@@ -12,13 +12,17 @@ use Rattle.csn_desc.specs.TreeV.{empty, bits, row, none}
 use Rattle.csn_desc.specs.Nodes.{DescV}
 use Rattle.csn_desc.specs.Spelled.{spelled}
 use Rattle.csn_desc.specs.Values.{Values, value_of, count_of}
-use Rattle.csn_desc.specs.Means.{means_lits, means_spare, means_pad, means_null, means_field, means_rest, means_times, means_many, means_cut, times_end, many_end}
-use Rattle.csn_desc.specs.Follows.{NFollow, NodeFollows, follows_at, follows_whole, follows_lits, follows_spare, follows_pad, follows_field, follows_seq, follows_choice, follows_times, follows_window, follows_named, parts_here, times_here}
+use Rattle.csn_desc.specs.Means.{means_lits, means_spare, means_pad, means_null, means_field, means_rest, means_times}
+use Rattle.csn_desc.specs.Means.{means_many, means_cut, times_end, many_end}
+use Rattle.csn_desc.specs.Follows.{NFollow, NodeFollows, follows_at, follows_whole, follows_lits, follows_spare}
+use Rattle.csn_desc.specs.Follows.{follows_pad, follows_field, follows_seq, follows_choice, follows_times}
+use Rattle.csn_desc.specs.Follows.{follows_window, follows_named, parts_here, times_here}
 use Rattle.csn_desc.specs.Formed.{IsCount, Formed, formed, formed_next, HaveValues}
 use Rattle.csn_desc.proofs.BitFacts.{spelled_is_spare}
 
 -- a count that stands on a field with a value is a number
-pub has_count : (nodes : List Node) (seen : List ℕ) (v : Values) (count : Count) → HaveValues v seen → IsCount nodes seen count → (n : ℕ) × (count_of v count ≡ Some n)
+pub has_count : (nodes : List Node) (seen : List ℕ) (v : Values) (count : Count)
+    → HaveValues v seen → IsCount nodes seen count → (n : ℕ) × (count_of v count ≡ Some n)
 has_count nodes seen v (Fixed n) values is = (n, refl)
 has_count nodes seen v (Counted m field c) values is = found (value_of v field) refl (values field is.2)
   where

@@ -1,5 +1,7 @@
 -- What stands of a builder's nodes where a node is entered, and where one is left.
-use Rattle.std.proofs.Common.{◌≡◌, ℕ, zero, suc, ◌<◌, ◌≤◌, ◌⊎◌, Bool, true, false, if◌then◌else◌, List, [], ◌∷◌, ◌++◌, length, set, refl, sym, ◌∙◌, ap, subst, arith, Option, Some, IsSomeAnd, inl, inr, length-append, length-set, nat_lt, lit<, lit≤, lt-ltb, le-ltb, ltb-true, ltb-false}
+use Rattle.std.proofs.Common.{◌≡◌, ℕ, zero, suc, ◌<◌, ◌≤◌, ◌⊎◌, Bool, true, false, if◌then◌else◌, List, [], ◌∷◌, ◌++◌}
+use Rattle.std.proofs.Common.{length, set, refl, sym, ◌∙◌, ap, subst, arith, Option, Some, IsSomeAnd, inl, inr}
+use Rattle.std.proofs.Common.{length-append, length-set, nat_lt, lit<, lit≤, lt-ltb, le-ltb, ltb-true, ltb-false}
 use Rattle.std.specs.Prelude.{slice_get}
 use Rattle.csn_desc.specs.declared.node.Node.{Node}
 use Rattle.csn_desc.specs.declared.node.Node.TheVariants.{Lits, Spare, Pad, Null, Field, Rest, Seq, Choice, Times, Many, Trunc, Window, Named}
@@ -10,7 +12,8 @@ use Rattle.csn_desc.specs.Formed.{IsHead, HasParts, shows_earlier}
 use Rattle.csn_desc.specs.Building.{node_of, with_part, set_part, part_begun, begun_parts, TakesPart, HasItsParts}
 use Rattle.csn_desc.specs.Laid.{Laid, PartsLaid, laid, laid_end, laid_next, seen_behind}
 use Rattle.csn_desc.specs.Standing.{IsPartAfter, Chain, chain_out, chain_in, AreParts, Stands}
-use Rattle.csn_desc.proofs.Growth.{Grown, grown_same, grown_part, grown_head, grown_shows, Grows, head_kept, parts_kept, behind_kept, innermost_before, after_kept, chain_kept, SameFrom}
+use Rattle.csn_desc.proofs.Growth.{Grown, grown_same, grown_part, grown_head, grown_shows, Grows, head_kept}
+use Rattle.csn_desc.proofs.Growth.{parts_kept, behind_kept, innermost_before, after_kept, chain_kept, SameFrom}
 
 -- ---- looking up
 
@@ -94,7 +97,9 @@ begun_yes nodes i n h = ap (λ b. if b then parts_of n else []) (lt-ltb (suc i) 
 pub begun_no : (nodes : List Node) (i : ℕ) (n : Node) → length nodes ≤ suc i → begun_parts nodes i n ≡ []
 begun_no nodes i n h = ap (λ b. if b then parts_of n else []) (le-ltb (suc i) (length nodes) h)
 
-part_added : (nodes : List Node) (i : ℕ) (n : Node) (parts : List ℕ) (b : Bool) → nat_lt (suc i) (length nodes) ≡ b → i < length nodes → parts ≡ begun_parts nodes i n → (length nodes ≤ suc i → n ≡ node_of (head_of n) (suc i)) → TakesOne n (length (begun_parts nodes i n)) → parts_of (with_part (length nodes) n) ≡ parts ++ length nodes ∷ []
+part_added : (nodes : List Node) (i : ℕ) (n : Node) (parts : List ℕ) (b : Bool) → nat_lt (suc i) (length nodes) ≡ b
+    → i < length nodes → parts ≡ begun_parts nodes i n → (length nodes ≤ suc i → n ≡ node_of (head_of n) (suc i))
+    → TakesOne n (length (begun_parts nodes i n)) → parts_of (with_part (length nodes) n) ≡ parts ++ length nodes ∷ []
 part_added nodes i n parts true e within are fresh takes =
     let begun : begun_parts nodes i n ≡ parts_of n = begun_yes nodes i n (ltb-true (suc i) (length nodes) e) in
     let P : List ℕ → Type 0 = λ l. TakesOne n (length l) in
@@ -244,7 +249,8 @@ no_parts (Window unit count part) h = absurd (omega (arith, h))
 no_parts (Named label part) h = absurd (omega (arith, h))
 
 -- all parts of a node that has its number of them were begun
-all_begun : (nodes : List Node) (i : ℕ) (n : Node) (b : Bool) → nat_lt (suc i) (length nodes) ≡ b → HasParts (head_of n) (length (begun_parts nodes i n)) → begun_parts nodes i n ≡ parts_of n
+all_begun : (nodes : List Node) (i : ℕ) (n : Node) (b : Bool) → nat_lt (suc i) (length nodes) ≡ b
+    → HasParts (head_of n) (length (begun_parts nodes i n)) → begun_parts nodes i n ≡ parts_of n
 all_begun nodes i n true e has = begun_yes nodes i n (ltb-true (suc i) (length nodes) e)
 all_begun nodes i n false e has =
     let none : begun_parts nodes i n ≡ [] = begun_no nodes i n (ltb-false (suc i) (length nodes) e) in

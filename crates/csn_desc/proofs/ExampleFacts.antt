@@ -9,12 +9,16 @@ use Rattle.csn_desc.specs.TreeV.{TreeV, empty, bits, row, named, trees_of}
 use Rattle.csn_desc.specs.Nodes.{DescV}
 use Rattle.csn_desc.specs.Spelled.{spelled}
 use Rattle.csn_desc.specs.Values.{Values, count_of}
-use Rattle.csn_desc.specs.Means.{NMeans, NodeMeans, means_at, means_lits, means_pad, means_field, means_seq, means_many, means_cut, means_trunc, means_window, means_named, parts_end, parts_next, many_end, many_next, lead_last, lead_next}
+use Rattle.csn_desc.specs.Means.{NMeans, NodeMeans, means_at, means_lits, means_pad, means_field, means_seq}
+use Rattle.csn_desc.specs.Means.{means_many, means_cut, means_trunc, means_window, means_named, parts_end, parts_next}
+use Rattle.csn_desc.specs.Means.{many_end, many_next, lead_last, lead_next}
 use Rattle.csn_desc.specs.Walks.{Walk, walk_at, walk_lits, walk_field, walk_seq, walk_named}
 use Rattle.csn_desc.specs.Walks as walk
 use Rattle.csn_desc.specs.declared.moves.Move.TheVariants.{Enter, Bit, Leave}
 use Rattle.csn_desc.specs.Formed.{spans, span_end, span_next, formed, formed_end, formed_next}
-use Rattle.csn_desc.specs.Examples.{A, fields, A5HasItsTree, TreeOfA5HasItsMoves, FieldsAreADescription, PaddingGoesByReading, counted, CountsGoByValue, window, PlacesGoOnInWindows, truncated, TruncationsTakeFirstParts, repeated, RepetitionsHaveARow, sent}
+use Rattle.csn_desc.specs.Examples.{A, fields, A5HasItsTree, TreeOfA5HasItsMoves, FieldsAreADescription}
+use Rattle.csn_desc.specs.Examples.{PaddingGoesByReading, counted, CountsGoByValue, window, PlacesGoOnInWindows}
+use Rattle.csn_desc.specs.Examples.{truncated, TruncationsTakeFirstParts, repeated, RepetitionsHaveARow, sent}
 use Rattle.csn_desc.proofs.Nodewise.{meaning_at}
 
 o : 0 ≤ 1
@@ -24,10 +28,13 @@ l : 1 ≤ 1
 l = lit≤ tt
 
 -- a labelled field, and a literal
-labelled : (d : DescV) {i p at : ℕ} {v : Values} {label : List ℕ} {count : Count} (n : ℕ) (b : List ℕ) → slice_get d.nodes i ≡ Some (Named label p) → slice_get d.nodes p ≡ Some (Field 1 count) → count_of v count ≡ Some n → length b ≡ 1 * n → IsBits b → NMeans d i at v b (named label (bits b))
+labelled : (d : DescV) {i p at : ℕ} {v : Values} {label : List ℕ} {count : Count} (n : ℕ) (b : List ℕ)
+    → slice_get d.nodes i ≡ Some (Named label p) → slice_get d.nodes p ≡ Some (Field 1 count)
+    → count_of v count ≡ Some n → length b ≡ 1 * n → IsBits b → NMeans d i at v b (named label (bits b))
 labelled d n b named_at field_at counts wide are = means_at _ named_at (means_named (means_at _ field_at (means_field n counts wide are)))
 
-literal : (d : DescV) {i at : ℕ} {v : Values} {run : List Symbol} (b : List ℕ) → slice_get d.nodes i ≡ Some (Lits run) → b ≡ spelled run at → NMeans d i at v b empty
+literal : (d : DescV) {i at : ℕ} {v : Values} {run : List Symbol} (b : List ℕ) → slice_get d.nodes i ≡ Some (Lits run)
+    → b ≡ spelled run at → NMeans d i at v b empty
 literal d b is spells = means_at _ is (means_lits spells)
 
 pub a5_has_its_tree : A5HasItsTree
@@ -88,7 +95,9 @@ repetitions_have_a_row =
 
 -- ---- the moves of the first tree, and that its description is well formed
 
-labelled_walk : (d : DescV) {i p at : ℕ} {label : List ℕ} {count : Count} (b : List ℕ) → slice_get d.nodes i ≡ Some (Named label p) → slice_get d.nodes p ≡ Some (Field 1 count) → Walk d i at (named label (bits b)) (Enter i ∷ ((Enter p ∷ (map Bit b ++ Leave ∷ [])) ++ Leave ∷ []))
+labelled_walk : (d : DescV) {i p at : ℕ} {label : List ℕ} {count : Count} (b : List ℕ)
+    → slice_get d.nodes i ≡ Some (Named label p) → slice_get d.nodes p ≡ Some (Field 1 count)
+    → Walk d i at (named label (bits b)) (Enter i ∷ ((Enter p ∷ (map Bit b ++ Leave ∷ [])) ++ Leave ∷ []))
 labelled_walk d b named_at field_at = walk_at _ _ named_at (walk_named (walk_at _ _ field_at (walk_field refl) refl)) refl
 
 pub tree_of_a5_has_its_moves : TreeOfA5HasItsMoves
@@ -110,8 +119,12 @@ fields_are_a_description =
           (span_end refl))));
       well_formed =
           formed _ refl (lit< tt) tt (lit≤ tt) (λ h. cc)
-          (formed_next (formed _ refl (lit< tt) tt refl (λ h. cc) (formed_next (formed _ refl (lit< tt) (inl refl, (lit≤ tt, lit≤ tt)) refl (λ h. cc) formed_end) formed_end))
+          (formed_next (formed _ refl (lit< tt) tt refl (λ h. cc)
+          (formed_next (formed _ refl (lit< tt) (inl refl, (lit≤ tt, lit≤ tt)) refl (λ h. cc) formed_end)
+          formed_end))
           (formed_next (formed _ refl (lit< tt) (lit≤ tt) refl (λ h. cc) formed_end)
-          (formed_next (formed _ refl (lit< tt) tt refl (λ h. cc) (formed_next (formed _ refl (lit< tt) (inl refl, (lit≤ tt, lit≤ tt)) refl (λ h. cc) formed_end) formed_end))
+          (formed_next (formed _ refl (lit< tt) tt refl (λ h. cc)
+          (formed_next (formed _ refl (lit< tt) (inl refl, (lit≤ tt, lit≤ tt)) refl (λ h. cc) formed_end)
+          formed_end))
           formed_end)));
     }

@@ -50,6 +50,7 @@ module _ (nodes : List Node) where
         first = λ k o. f.first k o.seen (sees_below o.sees) (record { counted = o.counted; full = o.full });
       }
 
-  pub is_description : (r : Reading) → length nodes ≤ 16384 → Laid nodes [] 0 0 (length nodes) → NoneCrowded nodes 0 0 0 → IsDescription (record { reading = r; nodes = nodes })
+  pub is_description : (r : Reading) → length nodes ≤ 16384 → Laid nodes [] 0 0 (length nodes)
+      → NoneCrowded nodes 0 0 0 → IsDescription (record { reading = r; nodes = nodes })
   is_description r few h none =
       record { few = few; numbered = laid_spans nodes h; well_formed = laid_formed h (λ k shown b crowded. none [] (root_counting h) k shown b crowded) }

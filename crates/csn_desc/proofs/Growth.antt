@@ -1,5 +1,6 @@
 -- What stays so where nodes are added at the end and the innermost one gets a part more.
-use Rattle.std.proofs.Common.{◌≡◌, ℕ, ◌<◌, ◌≤◌, Bool, true, false, if◌then◌else◌, List, [], ◌∷◌, ◌++◌, refl, sym, ◌∙◌, ap, subst, arith, Option, Some, None, IsSomeAnd}
+use Rattle.std.proofs.Common.{◌≡◌, ℕ, ◌<◌, ◌≤◌, Bool, true, false, if◌then◌else◌, List, [], ◌∷◌, ◌++◌, refl, sym, ◌∙◌}
+use Rattle.std.proofs.Common.{ap, subst, arith, Option, Some, None, IsSomeAnd}
 use Rattle.std.specs.Prelude.{slice_get}
 use Rattle.std.specs.Option.{option_and_then}
 use Rattle.csn_desc.specs.declared.node.Count.{Count}
@@ -39,7 +40,9 @@ grown_part p (Window unit count part) = grown_same refl
 grown_part p (Named label part) = grown_same refl
 
 -- what does not go by the parts of such nodes stays
-pub grown_keeps : {A : Type 0} (f : Node → A) → ((a b : List ℕ) → f (Seq a) ≡ f (Seq b)) → ((a b : List ℕ) → f (Choice a) ≡ f (Choice b)) → ((a b : List ℕ) → f (Trunc a) ≡ f (Trunc b)) → {n m : Node} → Grown n m → f m ≡ f n
+pub grown_keeps : {A : Type 0} (f : Node → A) → ((a b : List ℕ) → f (Seq a) ≡ f (Seq b))
+    → ((a b : List ℕ) → f (Choice a) ≡ f (Choice b)) → ((a b : List ℕ) → f (Trunc a) ≡ f (Trunc b)) → {n m : Node}
+    → Grown n m → f m ≡ f n
 grown_keeps f s c t (grown_same e) = ap f e
 grown_keeps f s c t (grown_seq parts more a b) = ap f b ∙ s more parts ∙ sym (ap f a)
 grown_keeps f s c t (grown_choice parts more a b) = ap f b ∙ c more parts ∙ sym (ap f a)
@@ -68,7 +71,8 @@ module _ (nodes others : List Node) where
     pub named_kept : (k : ℕ) (n : Node) → slice_get nodes k ≡ Some n → is_named others k ≡ is_named nodes k
     named_kept k n at = let h = grows k n at in ap is_labelled h.1 ∙ grown_labelled h.2 ∙ sym (ap is_labelled at)
 
-    width_same : (field part : ℕ) (n k : Node) → slice_get nodes field ≡ Some n → labelled_part (Some n) ≡ Some part → slice_get nodes part ≡ Some k → value_width others field ≡ value_width nodes field
+    width_same : (field part : ℕ) (n k : Node) → slice_get nodes field ≡ Some n → labelled_part (Some n) ≡ Some part
+        → slice_get nodes part ≡ Some k → value_width others field ≡ value_width nodes field
     width_same field part n k at labelled inside =
         let above = grows field n at in
         let below = grows part k inside in
@@ -78,22 +82,27 @@ module _ (nodes others : List Node) where
         ∙ ap width_of below.1 ∙ grown_width below.2 ∙ sym (ap width_of inside)
         ∙ sym (ap (λ o. option_and_then (λ p. width_of (slice_get nodes p)) o) earlier)
 
-    width_at_part : (P : ℕ → Type 0) (field part : ℕ) (n : Node) (q : Option Node) → slice_get nodes field ≡ Some n → labelled_part (Some n) ≡ Some part → slice_get nodes part ≡ q → IsSomeAnd (value_width nodes field) P → IsSomeAnd (value_width others field) P
+    width_at_part : (P : ℕ → Type 0) (field part : ℕ) (n : Node) (q : Option Node) → slice_get nodes field ≡ Some n
+        → labelled_part (Some n) ≡ Some part → slice_get nodes part ≡ q → IsSomeAnd (value_width nodes field) P
+        → IsSomeAnd (value_width others field) P
     width_at_part P field part n (Some k) at labelled inside h =
         let Q : Option ℕ → Type 0 = λ o. IsSomeAnd o P in subst Q (sym (width_same field part n k at labelled inside)) h
     width_at_part P field part n None at labelled inside h =
         let Q : Option ℕ → Type 0 = λ o. IsSomeAnd o P in
-        let none : value_width nodes field ≡ None = ap (λ o. option_and_then (λ p. width_of (slice_get nodes p)) o) (ap labelled_part at ∙ labelled) ∙ ap width_of inside in
+        let none : value_width nodes field ≡ None = ap (λ o. option_and_then (λ p. width_of (slice_get nodes p)) o)
+        (ap labelled_part at ∙ labelled) ∙ ap width_of inside in
         absurd (subst Q none h)
 
-    width_at_node : (P : ℕ → Type 0) (field : ℕ) (n : Node) (q : Option ℕ) → slice_get nodes field ≡ Some n → labelled_part (Some n) ≡ q → IsSomeAnd (value_width nodes field) P → IsSomeAnd (value_width others field) P
+    width_at_node : (P : ℕ → Type 0) (field : ℕ) (n : Node) (q : Option ℕ) → slice_get nodes field ≡ Some n
+        → labelled_part (Some n) ≡ q → IsSomeAnd (value_width nodes field) P → IsSomeAnd (value_width others field) P
     width_at_node P field n (Some part) at labelled h = width_at_part P field part n (slice_get nodes part) at labelled refl h
     width_at_node P field n None at labelled h =
         let Q : Option ℕ → Type 0 = λ o. IsSomeAnd o P in
         let none : value_width nodes field ≡ None = ap (λ o. option_and_then (λ p. width_of (slice_get nodes p)) o) (ap labelled_part at ∙ labelled) in
         absurd (subst Q none h)
 
-    width_at : (P : ℕ → Type 0) (field : ℕ) (q : Option Node) → slice_get nodes field ≡ q → IsSomeAnd (value_width nodes field) P → IsSomeAnd (value_width others field) P
+    width_at : (P : ℕ → Type 0) (field : ℕ) (q : Option Node)
+        → slice_get nodes field ≡ q → IsSomeAnd (value_width nodes field) P → IsSomeAnd (value_width others field) P
     width_at P field (Some n) at h = width_at_node P field n (labelled_part (Some n)) at refl h
     width_at P field None at h =
         let Q : Option ℕ → Type 0 = λ o. IsSomeAnd o P in
@@ -140,7 +149,9 @@ module _ (nodes others : List Node) where
           let here : slice_get others i ≡ Some n = same i (omega arith) (omega (arith, parts_behind nodes parts)) ∙ at in
           laid n here deep (head_kept seen (head_of n) head) has (parts_kept (λ k a b. same k (omega arith) b) parts)
 
-      pub parts_kept : {shows : Bool} {seen : List ℕ} {round at end : ℕ} {parts : List ℕ} → SameFrom at end → PartsLaid nodes shows seen round parts at end → PartsLaid others shows seen round parts at end
+      pub parts_kept : {shows : Bool} {seen : List ℕ} {round at end : ℕ} {parts : List ℕ}
+          → SameFrom at end → PartsLaid nodes shows seen round parts at end
+          → PartsLaid others shows seen round parts at end
       parts_kept same (laid_end e) = laid_end e
       parts_kept {shows = shows} {seen = seen} {round = round} {end = end} same (laid_next {i = i} {parts = parts} middle e h rest) =
           let node = laid_node h in
@@ -150,7 +161,9 @@ module _ (nodes others : List Node) where
           laid_next middle e (laid_kept (λ k a b. same k (omega arith) (omega (arith, parts_behind nodes rest))) h)
           (subst P (sym (seen_kept shows i seen node.0 node.1)) later)
 
-    pub behind_kept : {shows : Bool} {seen : List ℕ} {round at end : ℕ} {parts : List ℕ} → PartsLaid nodes shows seen round parts at end → seen_behind others shows parts seen ≡ seen_behind nodes shows parts seen
+    pub behind_kept : {shows : Bool} {seen : List ℕ} {round at end : ℕ} {parts : List ℕ}
+        → PartsLaid nodes shows seen round parts at end
+        → seen_behind others shows parts seen ≡ seen_behind nodes shows parts seen
     behind_kept (laid_end e) = refl
     behind_kept {shows = shows} {seen = seen} (laid_next {i = i} {parts = parts} middle e h rest) =
         let node = laid_node h in
@@ -160,7 +173,8 @@ module _ (nodes others : List Node) where
     pub innermost_before : {above end : ℕ} {rest parts seen : List ℕ} → Chain nodes (above ∷ rest) end parts seen → above < end
     innermost_before (chain_in n before round c after at deep head h e) = omega (arith, parts_behind nodes h)
 
-    pub after_kept : {end : ℕ} {parts seen : List ℕ} (before rest : List ℕ) (i : ℕ) → Chain nodes rest end parts seen → SameFrom 0 end → IsPartAfter nodes rest before i → IsPartAfter others rest before i
+    pub after_kept : {end : ℕ} {parts seen : List ℕ} (before rest : List ℕ) (i : ℕ) → Chain nodes rest end parts seen
+        → SameFrom 0 end → IsPartAfter nodes rest before i → IsPartAfter others rest before i
     after_kept before [] i c same h = h
     after_kept before (above ∷ rest) i c same h = (h.0, same above (omega arith) (innermost_before c) ∙ h.1, h.2)
 

@@ -1,5 +1,8 @@
 -- The innermost node of a builder is the last of its list.
-use Rattle.std.proofs.Common.{◌≡◌, ℕ, zero, suc, ◌-◌, ◌+◌, ◌<◌, ◌≤◌, Bool, true, false, List, [], ◌∷◌, ◌++◌, length, reverse, take, refl, sym, ◌∙◌, ap, subst, arith, Option, Some, None, option_to_list, nat_lt, ltb-true, ltb-false, append-nil, length-append, set, get_or, Result, Ok, Err, is_err, OnOk, OnErr, add-one, ◌==◌, ◌⊎◌, inl, inr, eq-eqb, eq-or-lt_of_le}
+use Rattle.std.proofs.Common.{◌≡◌, ℕ, zero, suc, ◌-◌, ◌+◌, ◌<◌, ◌≤◌, Bool, true, false, List, [], ◌∷◌, ◌++◌, length}
+use Rattle.std.proofs.Common.{reverse, take, refl, sym, ◌∙◌, ap, subst, arith, Option, Some, None, option_to_list}
+use Rattle.std.proofs.Common.{nat_lt, ltb-true, ltb-false, append-nil, length-append, set, get_or, Result, Ok, Err}
+use Rattle.std.proofs.Common.{is_err, OnOk, OnErr, add-one, ◌==◌, ◌⊎◌, inl, inr, eq-eqb, eq-or-lt_of_le}
 use Rattle.std.specs.Prelude.{slice_get, ◌&&◌, ◌||◌, IsSome}
 use Rattle.std.specs.List.{list_any}
 use Rattle.std.proofs.lemmas.List.{reverse-append, set-append_left, length-reverse}
@@ -61,7 +64,8 @@ last_read same at = sym (ap (λ l. slice_get l (length l - 1)) same) ∙ sym at
 
 -- ---- a node is left
 
-pub leaves_last : (nodes : List Node) (items fewer : List ℕ) (last : Option ℕ) → items ≡ fewer ++ option_to_list last → Stands nodes (reverse items) → HasItsParts nodes (reverse items) → Stands nodes (reverse fewer)
+pub leaves_last : (nodes : List Node) (items fewer : List ℕ) (last : Option ℕ) → items ≡ fewer ++ option_to_list last
+    → Stands nodes (reverse items) → HasItsParts nodes (reverse items) → Stands nodes (reverse fewer)
 leaves_last nodes items fewer None e s has =
     let P : List ℕ → Type 0 = λ l. Stands nodes (reverse l) in subst P (e ∙ append-nil fewer) s
 leaves_last nodes items fewer (Some i) e s has =
@@ -72,7 +76,8 @@ leaves_last nodes items fewer (Some i) e s has =
 
 -- ---- a node is entered
 
-laid_count : {nodes : List Node} {shows : Bool} {seen : List ℕ} {round at end : ℕ} {parts : List ℕ} → PartsLaid nodes shows seen round parts at end → length parts + at ≤ end
+laid_count : {nodes : List Node} {shows : Bool} {seen : List ℕ} {round at end : ℕ} {parts : List ℕ}
+    → PartsLaid nodes shows seen round parts at end → length parts + at ≤ end
 laid_count (laid_end e) = omega (arith, e)
 laid_count {nodes} (laid_next middle e h rest) = omega (arith, e, laid_count rest, laid_behind nodes h)
 
@@ -95,7 +100,8 @@ parts_few : {nodes : List Node} {i end : ℕ} {rest parts seen : List ℕ} → C
 parts_few (chain_in n before round c after at deep head inner e) = laid_count inner
 
 -- the innermost node has few parts
-pub top_few : (nodes : List Node) (i : ℕ) (rest : List ℕ) → Stands nodes (i ∷ rest) → length nodes < 16384 → (n : Node) × (slice_get nodes i ≡ Some n) × (length (parts_of n) < 16384)
+pub top_few : (nodes : List Node) (i : ℕ) (rest : List ℕ) → Stands nodes (i ∷ rest)
+    → length nodes < 16384 → (n : Node) × (slice_get nodes i ≡ Some n) × (length (parts_of n) < 16384)
 top_few nodes i rest s few = (s.are_parts.0, s.are_parts.1, by_test (nat_lt (suc i) (length nodes)) refl)
   where
     by_test : (b : Bool) → nat_lt (suc i) (length nodes) ≡ b → length (parts_of s.are_parts.0) < 16384
@@ -108,13 +114,18 @@ top_few nodes i rest s few = (s.are_parts.0, s.are_parts.1, by_test (nat_lt (suc
         let same : length (parts_of s.are_parts.0) ≡ length (parts_of (node_of (head_of s.are_parts.0) (suc i))) = ap (λ n. length (parts_of n)) fresh in
         omega (arith, entered_few (head_of s.are_parts.0) (suc i))
 
-enters_around : (r : Reading) (nodes : List Node) (around : List ℕ) (h : Head) → Stands nodes around → length nodes < 16384 → length around < 64 → Takes (record { reading = r; nodes = nodes; around = around }) h → Stands (part_begun nodes around ++ node_of h (suc (length nodes)) ∷ []) (length nodes ∷ around)
+enters_around : (r : Reading) (nodes : List Node) (around : List ℕ) (h : Head)
+    → Stands nodes around → length nodes < 16384 → length around < 64
+    → Takes (record { reading = r; nodes = nodes; around = around }) h
+    → Stands (part_begun nodes around ++ node_of h (suc (length nodes)) ∷ []) (length nodes ∷ around)
 enters_around r [] [] h s few deep takes = enters_outside h s (next_head (record { reading = r; nodes = []; around = [] }) h s takes.1)
 enters_around r (n ∷ nodes) [] h s few deep takes = let none = takes.0 in cc
 enters_around r nodes (top ∷ rest) h s few deep takes =
     enters_inside nodes top rest h s few deep takes.0 (next_head (record { reading = r; nodes = nodes; around = top ∷ rest }) h s takes.1)
 
-begun_as : (nodes : List Node) (around : List ℕ) (items : List ℕ) (above : Option ℕ) → around ≡ reverse items → slice_get items (length items - 1) ≡ above → part_begun nodes (option_to_list above) ≡ part_begun nodes around
+begun_as : (nodes : List Node) (around : List ℕ) (items : List ℕ) (above : Option ℕ)
+    → around ≡ reverse items → slice_get items (length items - 1) ≡ above
+    → part_begun nodes (option_to_list above) ≡ part_begun nodes around
 begun_as nodes around items (Some i) e at = sym (ap (λ l. part_begun nodes l) (e ∙ top_is items i at))
 begun_as nodes around items None e at = sym (ap (λ l. part_begun nodes l) (e ∙ ap (λ l. reverse l) (none_is items at)))
 

@@ -1,5 +1,8 @@
 -- Marks of counted fields, made node by node.
-use Rattle.std.proofs.Common.{◌≡◌, ℕ, zero, suc, ◌+◌, ◌<◌, ◌≤◌, ◌⊎◌, Bool, true, false, ◌||◌, ◌==◌, List, ◌∷◌, length, map, take, set, replicate, get_or, refl, sym, ◌∙◌, ap, arith, Option, Some, None, length-set, get_or-set_same, get_or-set_other, eq-eqb, eqb-true, nat_lt, ltb-true, ltb-false, inl, inr}
+use Rattle.std.proofs.Common.{◌≡◌, ℕ, zero, suc, ◌+◌, ◌<◌, ◌≤◌, ◌⊎◌, Bool, true, false, ◌||◌, ◌==◌, List, ◌∷◌, length}
+use Rattle.std.proofs.Common.{map, take, set, replicate, get_or, refl, sym, ◌∙◌, ap, arith, Option, Some, None}
+use Rattle.std.proofs.Common.{length-set, get_or-set_same, get_or-set_other, eq-eqb, eqb-true, nat_lt, ltb-true}
+use Rattle.std.proofs.Common.{ltb-false, inl, inr}
 use Rattle.std.specs.List.{range_with_len}
 use Rattle.std.proofs.lemmas.List.Folds.{list_any_more}
 use Rattle.std.proofs.lemmas.List.FromFn.{length-map-range_with_len, get_or-map-range_with_len, fill_by_all}
@@ -34,7 +37,8 @@ marked_by f k = by_test (f == k) refl
     by_test false e = inr (λ same. let yes : (f == k) ≡ true = eq-eqb f k same in cc)
 
 -- a mark more
-next_mark : (nodes : List Node) (i k : ℕ) (node : Node) (b : Bool) → i < length nodes → get_or nodes i node ≡ node → node_counts_on k node ≡ b → is_counted (take (i + 1) nodes) k ≡ (is_counted (take i nodes) k || b)
+next_mark : (nodes : List Node) (i k : ℕ) (node : Node) (b : Bool) → i < length nodes → get_or nodes i node ≡ node
+    → node_counts_on k node ≡ b → is_counted (take (i + 1) nodes) k ≡ (is_counted (take i nodes) k || b)
 next_mark nodes i k node b within is e =
     list_any_more (node_counts_on k) nodes i node within ∙ ap (λ c. is_counted (take i nodes) k || c) (ap (node_counts_on k) is ∙ e)
 
@@ -46,7 +50,8 @@ or_true : (b : Bool) → (b || true) ≡ true
 or_true true = refl
 or_true false = refl
 
-module _ (nodes : List Node) (i : ℕ) (node : Node) (marks : List Bool) (within : i < length nodes) (is : get_or nodes i node ≡ node) (are : marks ≡ marks_of nodes i) where
+module _ (nodes : List Node) (i : ℕ) (node : Node) (marks : List Bool) (within : i < length nodes)
+    (is : get_or nodes i node ≡ node) (are : marks ≡ marks_of nodes i) where
   long : length marks ≡ length nodes
   long = ap (λ l. length l) are ∙ length-map-range_with_len (is_counted (take i nodes)) 0 (length nodes)
 
@@ -72,7 +77,9 @@ module _ (nodes : List Node) (i : ℕ) (node : Node) (marks : List Bool) (within
   pub past_stood_on : (f : ℕ) → length marks ≤ f → ((field : ℕ) → node_counts_on field node ≡ stands_on field (Some f)) → marks ≡ marks_of nodes (i + 1)
   past_stood_on f past on = same_marks (λ k h. on k ∙ other_mark f k (λ same. omega (arith, long)))
 
-  mark_set : (f k : ℕ) → k < length nodes → f < length marks → ((field : ℕ) → node_counts_on field node ≡ stands_on field (Some f)) → f ≡ k ⊎ (f ≡ k → ⊥) → get_or (set marks f true) k false ≡ is_counted (take (i + 1) nodes) k
+  mark_set : (f k : ℕ) → k < length nodes → f < length marks
+      → ((field : ℕ) → node_counts_on field node ≡ stands_on field (Some f)) → f ≡ k ⊎ (f ≡ k → ⊥)
+      → get_or (set marks f true) k false ≡ is_counted (take (i + 1) nodes) k
   mark_set f k h there on (inl same) =
       let stood : node_counts_on k node ≡ true = on k ∙ eq-eqb f k same in
       ap (λ j. get_or (set marks f true) j false) (sym same) ∙ get_or-set_same marks f true false there
@@ -87,7 +94,9 @@ module _ (nodes : List Node) (i : ℕ) (node : Node) (marks : List Bool) (within
       fill_by_all (is_counted (take (i + 1) nodes)) (set marks f true) (length nodes) false (length-set marks f true ∙ long)
       (λ k h. mark_set f k h there on (marked_by f k))
 
-  by_length : (f : ℕ) (b : Bool) → nat_lt f (length marks) ≡ b → ((field : ℕ) → node_counts_on field node ≡ stands_on field (Some f)) → set marks f true ≡ marks_of nodes (i + 1)
+  by_length : (f : ℕ) (b : Bool)
+      → nat_lt f (length marks) ≡ b → ((field : ℕ) → node_counts_on field node ≡ stands_on field (Some f))
+      → set marks f true ≡ marks_of nodes (i + 1)
   by_length f true e on = stood_on f (ltb-true f (length marks) e) on
   by_length f false e on =
       let past : length marks ≤ f = ltb-false f (length marks) e in

@@ -24,7 +24,8 @@ module _ (nodes : List Node) where
   part_from (suc j) i (span_next middle e h others) at = omega (arith, span_grows h, part_from j i others at)
 
   -- no two parts are one node
-  pub parts_distinct : {parts : List ℕ} {at end : ℕ} (j k i : ℕ) → PartsSpan nodes parts at end → slice_get parts j ≡ Some i → slice_get parts k ≡ Some i → j ≡ k
+  pub parts_distinct : {parts : List ℕ} {at end : ℕ} (j k i : ℕ) → PartsSpan nodes parts at end
+      → slice_get parts j ≡ Some i → slice_get parts k ≡ Some i → j ≡ k
   parts_distinct j k i (span_end e) left right = cc
   parts_distinct zero zero i (span_next middle e h others) left right = refl
   parts_distinct zero (suc k) i (span_next {i = first} middle e h others) left right =
@@ -89,7 +90,8 @@ module _ (nodes : List Node) where
   span_parts {i} {end} {n} at (spans m is h) = let same : m ≡ n = cc in subst (λ k. PartsSpan nodes (parts_of k) (suc i) end) same h
 
 -- what holds of all later nodes holds of its parts
-pub parts_later : (d : DescV) (i : ℕ) (n : Node) (P : ℕ → Type 0) → IsDescription d → slice_get d.nodes i ≡ Some n → ((j : ℕ) → i < j → j < length d.nodes → P j) → (j p : ℕ) → slice_get (parts_of n) j ≡ Some p → P p
+pub parts_later : (d : DescV) (i : ℕ) (n : Node) (P : ℕ → Type 0) → IsDescription d → slice_get d.nodes i ≡ Some n
+    → ((j : ℕ) → i < j → j < length d.nodes → P j) → (j p : ℕ) → slice_get (parts_of n) j ≡ Some p → P p
 parts_later d i n P is at later j p there =
     let inside = slice_get_within d.nodes i n at in
     let s = span_inside d.nodes i is.numbered (omega arith) inside in

@@ -6,7 +6,10 @@ use Rattle.csn_desc.specs.declared.moves.Move.TheVariants.{Enter, Bit, Leave}
 use Rattle.csn_desc.specs.declared.node.Node.{Node}
 use Rattle.csn_desc.specs.TreeV.{TreeV, bits, Trees}
 use Rattle.csn_desc.specs.Nodes.{DescV}
-use Rattle.csn_desc.specs.Walks.{Walk, NodeWalk, PartsWalk, RepeatsWalk, LeadWalk, walk_at, walk_lits, walk_spare, walk_pad, walk_null, walk_field, walk_rest, walk_seq, walk_choice, walk_times, walk_many, walk_trunc, walk_window, walk_named, parts_end, parts_next, repeats_end, repeats_next, lead_end, lead_next}
+use Rattle.csn_desc.specs.Walks.{Walk, NodeWalk, PartsWalk, RepeatsWalk, LeadWalk, walk_at, walk_lits, walk_spare}
+use Rattle.csn_desc.specs.Walks.{walk_pad, walk_null, walk_field, walk_rest, walk_seq, walk_choice, walk_times}
+use Rattle.csn_desc.specs.Walks.{walk_many, walk_trunc, walk_window, walk_named, parts_end, parts_next, repeats_end}
+use Rattle.csn_desc.specs.Walks.{repeats_next, lead_end, lead_next}
 use Rattle.csn_desc.proofs.WalkFacts.{walk_moved, at_node}
 
 both_pieces : {a c : List Move} (f1 r1 f2 r2 : List Move) → a ≡ f1 ++ r1 → c ≡ f2 ++ r2 → f1 ≡ f2 → r1 ≡ r2 → a ≡ c

@@ -41,18 +41,21 @@ module _ (nodes : List Node) where
                 stop = inner.stop;
                 span = inner.span;
                 within = omega arith;
-                apart = λ j p get. before_or k inner.stop i at p j parts (omega arith) e get (λ m there. inr (let from = part_from nodes m p others there in omega (arith, from, within)));
+                apart = λ j p get. before_or k inner.stop i at p j parts (omega arith) e get
+                    (λ m there. inr (let from = part_from nodes m p others there in omega (arith, from, within)));
               }
           | inr after ↦ behind (omega (arith, after))
         ]
       ]
     where
-      before_or : (k stop i at p j : ℕ) (parts : List ℕ) → at ≤ k → i ≡ at → slice_get (i ∷ parts) j ≡ Some p → ((m : ℕ) → slice_get parts m ≡ Some p → (p ≤ k) ⊎ (stop ≤ p)) → (p ≤ k) ⊎ (stop ≤ p)
+      before_or : (k stop i at p j : ℕ) (parts : List ℕ) → at ≤ k → i ≡ at → slice_get (i ∷ parts) j ≡ Some p
+          → ((m : ℕ) → slice_get parts m ≡ Some p → (p ≤ k) ⊎ (stop ≤ p)) → (p ≤ k) ⊎ (stop ≤ p)
       before_or k stop i at p zero parts low e get later = let same : i ≡ p = cc in inl (omega arith)
       before_or k stop i at p (suc j) parts low e get later = later j get
 
   -- a part of a node is no part of a later one
-  later_parent : (k m j h p end : ℕ) (n o : Node) → Spans nodes 0 end → k < m → m < end → slice_get nodes k ≡ Some n → slice_get nodes m ≡ Some o → slice_get (parts_of n) j ≡ Some p → slice_get (parts_of o) h ≡ Some p → ⊥
+  later_parent : (k m j h p end : ℕ) (n o : Node) → Spans nodes 0 end → k < m → m < end → slice_get nodes k ≡ Some n
+      → slice_get nodes m ≡ Some o → slice_get (parts_of n) j ≡ Some p → slice_get (parts_of o) h ≡ Some p → ⊥
   later_parent k m j h p end n o all order inside at_k at_m get_k get_m =
       let s = span_inside nodes k all (omega arith) (omega arith) in
       let parts = span_parts nodes at_k s.span in
@@ -69,7 +72,9 @@ module _ (nodes : List Node) where
       ]
 
 -- two nodes that have one part are one, and have it at one place
-pub one_parent : (d : DescV) (k m j h p : ℕ) (n o : Node) → IsDescription d → slice_get d.nodes k ≡ Some n → slice_get d.nodes m ≡ Some o → slice_get (parts_of n) j ≡ Some p → slice_get (parts_of o) h ≡ Some p → (k ≡ m) × (j ≡ h)
+pub one_parent : (d : DescV) (k m j h p : ℕ) (n o : Node) → IsDescription d → slice_get d.nodes k ≡ Some n
+    → slice_get d.nodes m ≡ Some o → slice_get (parts_of n) j ≡ Some p → slice_get (parts_of o) h ≡ Some p → (k ≡ m)
+    × (j ≡ h)
 one_parent d k m j h p n o is at_k at_m get_k get_m =
     let inside_k = slice_get_within d.nodes k n at_k in
     let inside_m = slice_get_within d.nodes m o at_m in
@@ -107,7 +112,16 @@ module _ (nodes : List Node) where
       let from = h.from in record { parent = h.parent; place = h.place; node = h.node; from = omega arith; before = h.before; at = h.at; part = h.part }
 
   lower : (i at k : ℕ) → at ≤ i → HasParent k i → HasParent k at
-  lower i at k less h = let from = h.from in record { parent = h.parent; place = h.place; node = h.node; from = omega arith; before = h.before; at = h.at; part = h.part }
+  lower i at k less h = let from = h.from in record {
+    parent = h.parent;
+    place = h.place;
+    node = h.node;
+    from =
+        omega arith;
+    before = h.before;
+    at = h.at;
+    part = h.part;
+  }
 
   shift : (i at middle : ℕ) (parts : List ℕ) (k : ℕ) → at ≤ middle → IsUnder parts k middle → IsUnder (i ∷ parts) k at
   shift i at middle parts k less (as_part j get) = as_part (suc j) get

@@ -30,7 +30,8 @@ module _ (nodes : List Node) where
           | inr high ↦ parts_placed k (parts_along same parts) others (omega (arith, high.1)) within
         ]
 
-    parts_placed : {shows : Bool} {seen : List ℕ} {round : ℕ} {parts : List ℕ} {at end : ℕ} (k : ℕ) → PartsSpan nodes parts at end → PartsFormed nodes shows seen round parts → at ≤ k → k < end → Placed k
+    parts_placed : {shows : Bool} {seen : List ℕ} {round : ℕ} {parts : List ℕ} {at end : ℕ} (k : ℕ)
+        → PartsSpan nodes parts at end → PartsFormed nodes shows seen round parts → at ≤ k → k < end → Placed k
     parts_placed k (span_end e) formed_end from within = absurd (omega arith)
     parts_placed k (span_next middle e h others) (formed_next first rest) from within =
         elim (leb_tells middle k) [

@@ -4,8 +4,16 @@ use Rattle.csn_desc.specs.declared.node.Node.{Node}
 use Rattle.csn_desc.specs.TreeV.{TreeV, empty, bits, row, Trees, none, more}
 use Rattle.csn_desc.specs.Nodes.{DescV}
 use Rattle.csn_desc.specs.Values.{Values}
-use Rattle.csn_desc.specs.Means.{NMeans, NodeMeans, PartsMean, TimesMean, ManyMean, LeadMean, means_at, means_lits, means_spare, means_pad, means_null, means_field, means_rest, means_seq, means_choice, means_times, means_many, means_cut, means_trunc, means_window, means_named, parts_end, parts_next, times_end, times_next, many_end, many_next, lead_last, lead_next}
-use Rattle.csn_desc.specs.Follows.{NFollow, NodeFollows, PartsFollow, TimesFollow, ManyFollow, follows_at, follows_whole, follows_lits, follows_spare, follows_pad, follows_field, follows_seq, follows_choice, follows_times, follows_many, follows_trunc, follows_window, follows_named, parts_here, parts_later, times_here, times_later, many_here, many_later}
+use Rattle.csn_desc.specs.Means.{NMeans, NodeMeans, PartsMean, TimesMean, ManyMean, LeadMean, means_at, means_lits}
+use Rattle.csn_desc.specs.Means.{means_spare, means_pad, means_null, means_field, means_rest, means_seq, means_choice}
+use Rattle.csn_desc.specs.Means.{means_times, means_many, means_cut, means_trunc, means_window, means_named}
+use Rattle.csn_desc.specs.Means.{parts_end, parts_next, times_end, times_next, many_end, many_next, lead_last}
+use Rattle.csn_desc.specs.Means.{lead_next}
+use Rattle.csn_desc.specs.Follows.{NFollow, NodeFollows, PartsFollow, TimesFollow, ManyFollow, follows_at}
+use Rattle.csn_desc.specs.Follows.{follows_whole, follows_lits, follows_spare, follows_pad, follows_field}
+use Rattle.csn_desc.specs.Follows.{follows_seq, follows_choice, follows_times, follows_many, follows_trunc}
+use Rattle.csn_desc.specs.Follows.{follows_window, follows_named, parts_here, parts_later, times_here, times_later}
+use Rattle.csn_desc.specs.Follows.{many_here, many_later}
 use Rattle.csn_desc.proofs.Splits.{inside, behind, splits, front_begun, front_empty, cut_again}
 use Rattle.csn_desc.proofs.BitFacts.{IsBits-front, IsBits-along}
 
@@ -45,7 +53,8 @@ module _ (d : DescV) where
     node_begins {w = w} (means_window k count wide h) b c e = follows_window k count (omega (arith, ap length e, length-append b c)) (begins h b c e)
     node_begins (means_named h) b c e = follows_named (begins h b c e)
 
-    parts_begin : {parts : List ℕ} {o : ℕ} {v : Values} {w : List ℕ} {ts : Trees} → PartsMean d parts o v w ts → (b c : List ℕ) → w ≡ b ++ c → PartsBegun parts o v b
+    parts_begin : {parts : List ℕ} {o : ℕ} {v : Values} {w : List ℕ} {ts : Trees}
+        → PartsMean d parts o v w ts → (b c : List ℕ) → w ≡ b ++ c → PartsBegun parts o v b
     parts_begin (parts_end h) b c e = inr (none, parts_end (front_empty b c (sym e ∙ h)))
     parts_begin (parts_next {t = t} b1 b2 cut h more_parts) b c e =
         front_begun b1 b2 b c (sym cut ∙ e) (λ m p. inl (parts_here (begins h b m p))) (λ m q. parts_begin more_parts m c q)
@@ -63,7 +72,8 @@ module _ (d : DescV) where
         front_begun b1 b2 b c (sym cut ∙ e) (λ r p. inl (many_here (begins h b r p))) (λ r q. many_begin others r c q)
         (λ r p f. inl (many_later b1 r p some h f)) (λ r p ts are. inr (more t ts, many_next b1 r p some h are))
 
-    lead_begins : {parts : List ℕ} {o : ℕ} {v : Values} {w : List ℕ} {ts : Trees} → LeadMean d parts o v w ts → (b c : List ℕ) → w ≡ b ++ c → PartsFollow d parts o v b
+    lead_begins : {parts : List ℕ} {o : ℕ} {v : Values} {w : List ℕ} {ts : Trees}
+        → LeadMean d parts o v w ts → (b c : List ℕ) → w ≡ b ++ c → PartsFollow d parts o v b
     lead_begins (lead_last some h) b c e = parts_here (begins h b c e)
     lead_begins (lead_next b1 b2 cut h others) b c e =
         elim (splits b1 b2 b c (sym cut ∙ e)) [

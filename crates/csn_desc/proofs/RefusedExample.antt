@@ -6,7 +6,8 @@ use Rattle.csn_desc.specs.declared.symbol.Symbol.TheVariants.{Zero}
 use Rattle.csn_desc.specs.TreeV.{TreeV}
 use Rattle.csn_desc.specs.Values.{Values}
 use Rattle.csn_desc.specs.Means.{NodeMeans, PartsMean, means_lits, means_field, means_seq, means_named, parts_next}
-use Rattle.csn_desc.specs.Follows.{NFollow, NodeFollows, PartsFollow, follows_at, follows_whole, follows_lits, follows_field, follows_seq, follows_named, parts_here, parts_later}
+use Rattle.csn_desc.specs.Follows.{NFollow, NodeFollows, PartsFollow, follows_at, follows_whole, follows_lits}
+use Rattle.csn_desc.specs.Follows.{follows_field, follows_seq, follows_named, parts_here, parts_later}
 use Rattle.csn_desc.specs.Examples.{A, fields, octet_B5, B5IsRefusedAtThree}
 use Rattle.csn_desc.proofs.Nodewise.{meaning_at, follow_at}
 use Rattle.csn_desc.proofs.Splits.{behind_front}

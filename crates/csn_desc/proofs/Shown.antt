@@ -1,5 +1,7 @@
 -- What the next node sees is what its head may count on.
-use Rattle.std.proofs.Common.{◌≡◌, ℕ, suc, ◌≤◌, ◌⊎◌, Bool, true, false, not, ◌&&◌, ◌||◌, if◌then◌else◌, ◌==◌, List, [], ◌∷◌, ◌++◌, length, refl, sym, ◌∙◌, ap, arith, Some, inl, inr, Contains, nat_lt, ltb-true, ltb-false, eqb-true, eq-eqb}
+use Rattle.std.proofs.Common.{◌≡◌, ℕ, suc, ◌≤◌, ◌⊎◌, Bool, true, false, not, ◌&&◌, ◌||◌, if◌then◌else◌, ◌==◌, List}
+use Rattle.std.proofs.Common.{[], ◌∷◌, ◌++◌, length, refl, sym, ◌∙◌, ap, arith, Some, inl, inr, Contains, nat_lt}
+use Rattle.std.proofs.Common.{ltb-true, ltb-false, eqb-true, eq-eqb}
 use Rattle.std.specs.Prelude.{slice_get}
 use Rattle.std.specs.List.{list_any}
 use Rattle.std.proofs.lemmas.List.Folds.{list_any-append}
@@ -47,7 +49,8 @@ not_true false h = refl
 abbrev has : ℕ → List ℕ → Bool
 has field xs = list_any (λ k. k == field) xs
 
-contains_first : (x field : ℕ) (xs : List ℕ) (b : Bool) → (x == field) ≡ b → has field (x ∷ xs) ≡ true → (has field xs ≡ true → Contains xs field) → Contains (x ∷ xs) field
+contains_first : (x field : ℕ) (xs : List ℕ) (b : Bool) → (x == field) ≡ b → has field (x ∷ xs) ≡ true
+    → (has field xs ≡ true → Contains xs field) → Contains (x ∷ xs) field
 contains_first x field xs true e h later = (0, omega arith, eqb-true x field e)
 contains_first x field xs false e h later =
     let rest = later (or_right (x == field) (has field xs) h e) in (suc rest.0, omega (arith, rest.1), rest.2)
@@ -124,11 +127,14 @@ module _ (nodes : List Node) (field : ℕ) where
       ap (λ b. has field (seen_behind nodes b parts round)) (shown_shows n (at_node i n at here)) ∙ added_behind parts round named (top here)
   chain_either n parts round rest i at named top later (inr below) = kept_behind (shows_earlier n) parts round (later below)
 
-  chain_shows : {around parts seen : List ℕ} {end : ℕ} → Chain nodes around end parts seen → is_named nodes field ≡ true → has field around ≡ false → TopHas around parts → list_any (λ i. has_shown field (slice_get nodes i)) around ≡ true → has field seen ≡ true
+  chain_shows : {around parts seen : List ℕ} {end : ℕ} → Chain nodes around end parts seen
+      → is_named nodes field ≡ true → has field around ≡ false → TopHas around parts
+      → list_any (λ i. has_shown field (slice_get nodes i)) around ≡ true → has field seen ≡ true
   chain_shows (chain_out h e) named apart top any = cc
   chain_shows {parts = parts} (chain_in {i = i} {rest = rest} n before round c after at deep head inner e) named apart top any =
       ap (λ l. has field l) e ∙ chain_either n parts round rest i at named top
-      (λ later. chain_shows c named (or_false_right (i == field) (has field rest) apart) (top_after rest before i after (or_false (i == field) (has field rest) apart)) later)
+      (λ later. chain_shows c named (or_false_right (i == field) (has field rest) apart)
+      (top_after rest before i after (or_false (i == field) (has field rest) apart)) later)
       (or_either (has_shown field (slice_get nodes i)) (list_any (λ k. has_shown field (slice_get nodes k)) rest) any)
 
   none_entered : (h : Head) (next : ℕ) → shows_earlier (node_of h next) ≡ true → parts_of (node_of h next) ≡ []
@@ -153,7 +159,9 @@ module _ (nodes : List Node) (field : ℕ) where
   pub shown_seen : (around : List ℕ) (s : Stands nodes around) → is_shown nodes around field ≡ true → Contains s.seen field
   shown_seen around s shown =
       let others = and_right (is_named nodes field) (not (has field around) && list_any (λ i. has_shown field (slice_get nodes i)) around) shown in
-      let apart : has field around ≡ false = not_true (has field around) (and_left (not (has field around)) (list_any (λ i. has_shown field (slice_get nodes i)) around) others) in
+      let apart : has field around ≡ false =
+      not_true (has field around)
+      (and_left (not (has field around)) (list_any (λ i. has_shown field (slice_get nodes i)) around) others) in
       contains_of s.seen field
       (chain_shows s.chain (and_left (is_named nodes field) (not (has field around) && list_any (λ i. has_shown field (slice_get nodes i)) around) shown)
       apart (top_of around s.parts (length nodes) refl s.are_parts)

@@ -1,5 +1,6 @@
 -- Values that are seen are there and fit the widths of their fields, also behind a labelled part.
-use Rattle.std.proofs.Common.{◌≡◌, ℕ, zero, suc, ◌^◌, ◌<◌, ◌==◌, ◌⊎◌, Bool, true, false, if◌then◌else◌, List, [], ◌∷◌, length, refl, ◌∙◌, ap, subst, arith, inl, inr, Some, eqb-true, Contains}
+use Rattle.std.proofs.Common.{◌≡◌, ℕ, zero, suc, ◌^◌, ◌<◌, ◌==◌, ◌⊎◌, Bool, true, false, if◌then◌else◌, List, [], ◌∷◌}
+use Rattle.std.proofs.Common.{length, refl, ◌∙◌, ap, subst, arith, inl, inr, Some, eqb-true, Contains}
 use Rattle.std.specs.Prelude.{IsSome}
 use Rattle.std.specs.List.{slice_index_or}
 use Rattle.csn_desc.specs.declared.node.Node.{Node}
@@ -27,7 +28,8 @@ module _ (nodes : List Node) where
   pub values_kept : (i : ℕ) (b : List ℕ) (v : Values) (seen : List ℕ) → HaveValues v seen → HaveValues (with_value nodes i b v) (with_seen nodes true i seen)
   values_kept i b v seen values = kept (is_named nodes i)
     where
-      found : (field : ℕ) (same : Bool) → (i == field) ≡ same → (i ≡ field) ⊎ IsSome (value_of v field) → IsSome (if same then Some (number_of b) else value_of v field)
+      found : (field : ℕ) (same : Bool) → (i == field) ≡ same → (i ≡ field) ⊎ IsSome (value_of v field)
+          → IsSome (if same then Some (number_of b) else value_of v field)
       found field true is h = refl
       found field false is (inl same) = absurd (grind (arith, is, same))
       found field false is (inr h) = h
@@ -56,7 +58,9 @@ module _ (d : DescV) where
   pub fits_kept : {i o : ℕ} {v : Values} {b : List ℕ} {t : TreeV} → FitWidths d v → NMeans d i o v b t → FitWidths d (with_value d.nodes i b v)
   fits_kept {i = i} {v = v} {b = b} widths h = record { fit = λ field value width. behind field value width (is_named d.nodes i) }
     where
-      first : (field value width : ℕ) (same : Bool) → (i == field) ≡ same → (if same then Some (number_of b) else value_of v field) ≡ Some value → value_width d.nodes field ≡ Some width → value < 2 ^ width
+      first : (field value width : ℕ) (same : Bool)
+          → (i == field) ≡ same → (if same then Some (number_of b) else value_of v field) ≡ Some value
+          → value_width d.nodes field ≡ Some width → value < 2 ^ width
       first field value width true same at is =
           let here : number_of b ≡ value = cc in
           let field_is : i ≡ field = eqb-true i field same in
@@ -65,6 +69,8 @@ module _ (d : DescV) where
           rw (← here) small
       first field value width false same at is = widths.fit field value width at is
 
-      behind : (field value width : ℕ) (labelled : Bool) → value_of (if labelled then (i, b) ∷ v else v) field ≡ Some value → value_width d.nodes field ≡ Some width → value < 2 ^ width
+      behind : (field value width : ℕ) (labelled : Bool)
+          → value_of (if labelled then (i, b) ∷ v else v) field ≡ Some value → value_width d.nodes field ≡ Some width
+          → value < 2 ^ width
       behind field value width true at is = first field value width (i == field) refl at is
       behind field value width false at is = widths.fit field value width at is

@@ -8,9 +8,15 @@ use Rattle.csn_desc.specs.declared.node.Node.{Node}
 use Rattle.csn_desc.specs.TreeV.{TreeV, bits, row, named, Trees, none, more}
 use Rattle.csn_desc.specs.Nodes.{DescV, parts_of}
 use Rattle.csn_desc.specs.Values.{Values}
-use Rattle.csn_desc.specs.Means.{NMeans, NodeMeans, PartsMean, TimesMean, ManyMean, LeadMean, means_at, means_lits, means_spare, means_pad, means_null, means_field, means_rest, means_seq, means_choice, means_times, means_many, means_cut, means_trunc, means_window, means_named, times_end, times_next, many_end, many_next, lead_last}
+use Rattle.csn_desc.specs.Means.{NMeans, NodeMeans, PartsMean, TimesMean, ManyMean, LeadMean, means_at, means_lits}
+use Rattle.csn_desc.specs.Means.{means_spare, means_pad, means_null, means_field, means_rest, means_seq, means_choice}
+use Rattle.csn_desc.specs.Means.{means_times, means_many, means_cut, means_trunc, means_window, means_named}
+use Rattle.csn_desc.specs.Means.{times_end, times_next, many_end, many_next, lead_last}
 use Rattle.csn_desc.specs.Means as mean
-use Rattle.csn_desc.specs.Walks.{bits_of, Walk, NodeWalk, PartsWalk, RepeatsWalk, LeadWalk, walk_at, walk_lits, walk_spare, walk_pad, walk_null, walk_field, walk_rest, walk_seq, walk_choice, walk_times, walk_many, walk_trunc, walk_window, walk_named, parts_end, parts_next, repeats_end, repeats_next, lead_end, lead_next}
+use Rattle.csn_desc.specs.Walks.{bits_of, Walk, NodeWalk, PartsWalk, RepeatsWalk, LeadWalk, walk_at, walk_lits}
+use Rattle.csn_desc.specs.Walks.{walk_spare, walk_pad, walk_null, walk_field, walk_rest, walk_seq, walk_choice}
+use Rattle.csn_desc.specs.Walks.{walk_times, walk_many, walk_trunc, walk_window, walk_named, parts_end, parts_next}
+use Rattle.csn_desc.specs.Walks.{repeats_end, repeats_next, lead_end, lead_next}
 use Rattle.csn_desc.specs.Formed.{Spans, PartsSpan, spans, span_next}
 use Rattle.csn_desc.proofs.Numbering.{parts_distinct, part_spans}
 
@@ -35,7 +41,8 @@ module _ (d : DescV) where
     pub walk : P moves
     pub takes : bits_of moves ≡ b
 
-  entered : {n : Node} {i o : ℕ} {t : TreeV} {b : List ℕ} → slice_get d.nodes i ≡ Some n → Takes (λ ms. NodeWalk d n o t ms) b → Takes (λ ms. Walk d i o t ms) b
+  entered : {n : Node} {i o : ℕ} {t : TreeV} {b : List ℕ} → slice_get d.nodes i ≡ Some n
+      → Takes (λ ms. NodeWalk d n o t ms) b → Takes (λ ms. Walk d i o t ms) b
   entered {n} {i} at h =
       record {
         moves = Enter i ∷ (h.moves ++ Leave ∷ []);
@@ -50,7 +57,9 @@ module _ (d : DescV) where
   nothing e h = record { moves = []; walk = h; takes = sym e }
 
   -- moves of a first part and then of the rest
-  joined : {P R : List Move → Type 0} {b : List ℕ} (o : ℕ) (Q : ℕ → List Move → Type 0) (b1 b2 : List ℕ) → b ≡ b1 ++ b2 → Takes P b1 → Takes (Q (o + length b1)) b2 → ((first rest : List Move) → P first → Q (o + length (bits_of first)) rest → R (first ++ rest)) → Takes R b
+  joined : {P R : List Move → Type 0} {b : List ℕ} (o : ℕ) (Q : ℕ → List Move → Type 0) (b1 b2 : List ℕ)
+      → b ≡ b1 ++ b2 → Takes P b1 → Takes (Q (o + length b1)) b2
+      → ((first rest : List Move) → P first → Q (o + length (bits_of first)) rest → R (first ++ rest)) → Takes R b
   joined o Q b1 b2 cut h others make =
       let there : o + length b1 ≡ o + length (bits_of h.moves) = ap (λ l. o + length l) (sym h.takes) in
       let S : ℕ → Type 0 = λ k. Q k others.moves in
@@ -97,7 +106,8 @@ module _ (d : DescV) where
 
     lead_walk_of : {parts : List ℕ} {o : ℕ} {v : Values} {b : List ℕ} {ts : Trees} → LeadMean d parts o v b ts → Takes (λ ms. LeadWalk d parts o ts ms) b
     lead_walk_of {b = b} (lead_last {parts = parts} {o = o} some h) =
-        joined o (λ k ms. LeadWalk d parts k none ms) b [] (sym (append-nil b)) (walk_of h) (nothing refl (lead_end refl)) (λ first rest w ws. lead_next first rest refl w ws)
+        joined o (λ k ms. LeadWalk d parts k none ms) b [] (sym (append-nil b)) (walk_of h)
+        (nothing refl (lead_end refl)) (λ first rest w ws. lead_next first rest refl w ws)
     lead_walk_of (mean.lead_next {parts = parts} {o = o} {ts = ts} b1 b2 cut h others) =
         joined o (λ k ms. LeadWalk d parts k ts ms) b1 b2 cut (walk_of h) (lead_walk_of others) (λ first rest w ws. lead_next first rest refl w ws)
 
@@ -117,7 +127,8 @@ module _ (d : DescV) where
       let others : b ≡ c = bits_stop b c x y (cc) in
       cc
 
-  same_bits : {a c : List Move} (b1 b2 : List ℕ) (x y : List Move) → a ≡ map Bit b1 → c ≡ map Bit b2 → a ++ (Leave ∷ x) ≡ c ++ (Leave ∷ y) → Same (bits b1) (bits b2) a c
+  same_bits : {a c : List Move} (b1 b2 : List ℕ) (x y : List Move) → a ≡ map Bit b1 → c ≡ map Bit b2
+      → a ++ (Leave ∷ x) ≡ c ++ (Leave ∷ y) → Same (bits b1) (bits b2) a c
   same_bits b1 b2 x y left right e =
       let agree : b1 ≡ b2 = bits_stop b1 b2 x y (ap (λ l. l ++ (Leave ∷ x)) (sym left) ∙ e ∙ ap (λ l. l ++ (Leave ∷ y)) right) in
       record { trees = ap bits agree; moves = left ∙ ap (λ l. map Bit l) agree ∙ sym right }
@@ -147,7 +158,8 @@ module _ (d : DescV) where
       let both : Enter _ ∷ ((w.0 ++ r) ++ x) ≡ Leave ∷ y = ap (λ m. (m ++ r) ++ x) (sym w.1) ∙ ap (λ m. m ++ x) (sym cut) ∙ e in
       cc
 
-  join_same : {a c : List Move} {t u : TreeV} {ts us : Trees} (f1 r1 f2 r2 : List Move) → a ≡ f1 ++ r1 → c ≡ f2 ++ r2 → Same t u f1 f2 → Same ts us r1 r2 → Same (more t ts) (more u us) a c
+  join_same : {a c : List Move} {t u : TreeV} {ts us : Trees} (f1 r1 f2 r2 : List Move)
+      → a ≡ f1 ++ r1 → c ≡ f2 ++ r2 → Same t u f1 f2 → Same ts us r1 r2 → Same (more t ts) (more u us) a c
   join_same f1 r1 f2 r2 left right first others =
       let trees_same = first.trees in let rest_same = others.trees in
       record { trees = cc; moves = left ∙ ap (λ l. l ++ r1) first.moves ∙ ap (λ l. f2 ++ l) others.moves ∙ sym right }
@@ -164,7 +176,8 @@ module _ (d : DescV) where
   at_node {o = o} {u = u} {c = c} same h = let S : Node → Type 0 = λ n. NodeWalk d n o u c in subst S (sym same) h
 
   mutual
-    pub one_walk : {i o end : ℕ} {t u : TreeV} {a c : List Move} (x y : List Move) → Spans d.nodes i end → Walk d i o t a → Walk d i o u c → a ++ x ≡ c ++ y → Same t u a c
+    pub one_walk : {i o end : ℕ} {t u : TreeV} {a c : List Move} (x y : List Move)
+        → Spans d.nodes i end → Walk d i o t a → Walk d i o u c → a ++ x ≡ c ++ y → Same t u a c
     one_walk {i = i} {end = end} x y (spans n at parts) (walk_at n1 in1 at1 h1 e1) (walk_at n2 in2 at2 h2 e2) e =
         let first_node : n1 ≡ n = cc in
         let one_node : n1 ≡ n2 = cc in
@@ -176,7 +189,9 @@ module _ (d : DescV) where
         (sym (append_assoc in1 (Leave ∷ []) x) ∙ tails ∙ append_assoc in2 (Leave ∷ []) y) in
         record { trees = same.trees; moves = e1 ∙ ap (λ l. Enter i ∷ (l ++ Leave ∷ [])) same.moves ∙ sym e2 }
 
-    one_node_walk : {n : Node} {o at end : ℕ} {t u : TreeV} {a c : List Move} (x y : List Move) → PartsSpan d.nodes (parts_of n) at end → NodeWalk d n o t a → NodeWalk d n o u c → a ++ (Leave ∷ x) ≡ c ++ (Leave ∷ y) → Same t u a c
+    one_node_walk : {n : Node} {o at end : ℕ} {t u : TreeV} {a c : List Move} (x y : List Move)
+        → PartsSpan d.nodes (parts_of n) at end → NodeWalk d n o t a → NodeWalk d n o u c
+        → a ++ (Leave ∷ x) ≡ c ++ (Leave ∷ y) → Same t u a c
     one_node_walk x y parts (walk_lits left) (walk_lits right) e = record { trees = refl; moves = left ∙ sym right }
     one_node_walk x y parts (walk_spare {b = b1} left) (walk_spare {b = b2} right) e = same_bits b1 b2 x y left right e
     one_node_walk x y parts (walk_pad {b = b1} left) (walk_pad {b = b2} right) e = same_bits b1 b2 x y left right e
@@ -202,15 +217,20 @@ module _ (d : DescV) where
     one_node_walk x y parts (walk_named {label = label} h1) (walk_named h2) e =
         let same = one_walk (Leave ∷ x) (Leave ∷ y) (only_part parts).1 h1 h2 e in record { trees = ap (named label) same.trees; moves = same.moves }
 
-    one_parts_walk : {parts : List ℕ} {o at end : ℕ} {ts us : Trees} {a c : List Move} (x y : List Move) → PartsSpan d.nodes parts at end → PartsWalk d parts o ts a → PartsWalk d parts o us c → a ++ x ≡ c ++ y → Same ts us a c
+    one_parts_walk : {parts : List ℕ} {o at end : ℕ} {ts us : Trees} {a c : List Move} (x y : List Move)
+        → PartsSpan d.nodes parts at end → PartsWalk d parts o ts a → PartsWalk d parts o us c → a ++ x ≡ c ++ y
+        → Same ts us a c
     one_parts_walk x y span (parts_end left) (parts_end right) e = record { trees = refl; moves = left ∙ sym right }
-    one_parts_walk x y (span_next middle s h spans_rest) (parts_next {parts = parts} {o = o} {ts = ts} f1 r1 left w1 ws1) (parts_next {ts = us} f2 r2 right w2 ws2) e =
+    one_parts_walk x y (span_next middle s h spans_rest) (parts_next {parts = parts} {o = o} {ts = ts}
+        f1 r1 left w1 ws1) (parts_next {ts = us} f2 r2 right w2 ws2) e =
         let cut = cut_first f1 r1 x f2 r2 y left right e in
         let first = one_walk (r1 ++ x) (r2 ++ y) h w1 w2 cut in
         let moved = walk_moved (λ k ms. PartsWalk d parts k us ms) o first.moves ws2 in
         join_same f1 r1 f2 r2 left right first (one_parts_walk x y spans_rest ws1 moved (cut_rest f1 r1 x f2 r2 y first.moves cut))
 
-    one_repeats_walk : {i o end : ℕ} {ts us : Trees} {a c : List Move} (x y : List Move) → Spans d.nodes i end → RepeatsWalk d i o ts a → RepeatsWalk d i o us c → a ++ (Leave ∷ x) ≡ c ++ (Leave ∷ y) → Same ts us a c
+    one_repeats_walk : {i o end : ℕ} {ts us : Trees} {a c : List Move} (x y : List Move)
+        → Spans d.nodes i end → RepeatsWalk d i o ts a → RepeatsWalk d i o us c → a ++ (Leave ∷ x) ≡ c ++ (Leave ∷ y)
+        → Same ts us a c
     one_repeats_walk x y span (repeats_end left) (repeats_end right) e = record { trees = refl; moves = left ∙ sym right }
     one_repeats_walk x y span (repeats_end left) (repeats_next f r right w ws) e =
         absurd (not_left r (Leave ∷ y) x w right (sym e ∙ ap (λ l. l ++ (Leave ∷ x)) left))
@@ -222,7 +242,9 @@ module _ (d : DescV) where
         let moved = walk_moved (λ k ms. RepeatsWalk d i k us ms) o first.moves ws2 in
         join_same f1 r1 f2 r2 left right first (one_repeats_walk x y span ws1 moved (cut_rest f1 r1 (Leave ∷ x) f2 r2 (Leave ∷ y) first.moves cut))
 
-    one_lead_walk : {parts : List ℕ} {o at end : ℕ} {ts us : Trees} {a c : List Move} (x y : List Move) → PartsSpan d.nodes parts at end → LeadWalk d parts o ts a → LeadWalk d parts o us c → a ++ (Leave ∷ x) ≡ c ++ (Leave ∷ y) → Same ts us a c
+    one_lead_walk : {parts : List ℕ} {o at end : ℕ} {ts us : Trees} {a c : List Move} (x y : List Move)
+        → PartsSpan d.nodes parts at end → LeadWalk d parts o ts a → LeadWalk d parts o us c
+        → a ++ (Leave ∷ x) ≡ c ++ (Leave ∷ y) → Same ts us a c
     one_lead_walk x y span (lead_end left) (lead_end right) e = record { trees = refl; moves = left ∙ sym right }
     one_lead_walk x y span (lead_end left) (lead_next f r right w ws) e =
         absurd (not_left r (Leave ∷ y) x w right (sym e ∙ ap (λ l. l ++ (Leave ∷ x)) left))

@@ -17,7 +17,8 @@ module _ (nodes : List Node) where
     pub laid_spans : {seen : List ℕ} {round i end : ℕ} → Laid nodes seen round i end → Spans nodes i end
     laid_spans (laid n at deep head has parts) = spans n at (parts_laid_span parts)
 
-    pub parts_laid_span : {shows : Bool} {seen : List ℕ} {round at end : ℕ} {parts : List ℕ} → PartsLaid nodes shows seen round parts at end → PartsSpan nodes parts at end
+    pub parts_laid_span : {shows : Bool} {seen : List ℕ} {round at end : ℕ} {parts : List ℕ}
+        → PartsLaid nodes shows seen round parts at end → PartsSpan nodes parts at end
     parts_laid_span (laid_end e) = span_end e
     parts_laid_span (laid_next middle e h rest) = span_next middle e (laid_spans h) (parts_laid_span rest)
 
@@ -33,7 +34,8 @@ module _ (nodes : List Node) where
   -- ---- well-formed nodes that are numbered through are laid out
 
   mutual
-    laid_from : {i end : ℕ} (seen : List ℕ) (round : ℕ) → AreWellFormed nodes → Sees nodes i seen → IsInside nodes i round → Spans nodes i end → Laid nodes seen round i end
+    laid_from : {i end : ℕ} (seen : List ℕ) (round : ℕ) → AreWellFormed nodes → Sees nodes i seen
+        → IsInside nodes i round → Spans nodes i end → Laid nodes seen round i end
     laid_from {i = i} seen round well sees inside (spans n at parts) =
         laid n at (well.deep i round inside) (well.heads i n seen at sees) (well.parts i n at)
         (parts_from (shows_earlier n) seen (suc round) well (λ k shown p. sees_parts n at sees p) (λ j k get. inside_one i round j n at get inside refl) parts)
@@ -65,14 +67,16 @@ module _ (nodes : List Node) where
     end : ℕ
     is : Laid nodes seen round i end
 
-  seeing_part : {shows : Bool} {seen shown parts : List ℕ} {round at end k : ℕ} → PartSees nodes shows seen parts k shown → PartsLaid nodes shows seen round parts at end → LaidSeeing k shown
+  seeing_part : {shows : Bool} {seen shown parts : List ℕ} {round at end k : ℕ}
+      → PartSees nodes shows seen parts k shown → PartsLaid nodes shows seen round parts at end → LaidSeeing k shown
   seeing_part {round = round} {k = k} (part_here {round = seen} {seen = shown} e f) (laid_next {i = i} middle g h rest) =
       let P : ℕ → Type 0 = λ j. Laid nodes seen round j middle in
       let Q : List ℕ → Type 0 = λ l. Laid nodes l round k middle in
       record { round = round; end = middle; is = subst Q (sym f) (subst P e h) }
   seeing_part (part_later p) (laid_next middle g h rest) = seeing_part p rest
 
-  seeing_inner : {i above : ℕ} {seen shown : List ℕ} (n : Node) → slice_get nodes above ≡ Some n → PartSees nodes (shows_earlier n) seen (parts_of n) i shown → LaidSeeing above seen → LaidSeeing i shown
+  seeing_inner : {i above : ℕ} {seen shown : List ℕ} (n : Node) → slice_get nodes above ≡ Some n
+      → PartSees nodes (shows_earlier n) seen (parts_of n) i shown → LaidSeeing above seen → LaidSeeing i shown
   seeing_inner {i = i} {above = above} {seen = seen} {shown = shown} n at p around = inner around.is
     where
       inner : {round end : ℕ} → Laid nodes seen round above end → LaidSeeing i shown
@@ -95,7 +99,8 @@ module _ (nodes : List Node) where
       within : {seen : List ℕ} {round end : ℕ} → Laid nodes seen round i end → i < length nodes
       within (laid n at deep head has parts) = slice_get_within nodes i n at
 
-  inside_part : {shows : Bool} {seen parts : List ℕ} {round at end : ℕ} (j k : ℕ) → slice_get parts j ≡ Some k → PartsLaid nodes shows seen round parts at end → LaidInside k round
+  inside_part : {shows : Bool} {seen parts : List ℕ} {round at end : ℕ} (j k : ℕ)
+      → slice_get parts j ≡ Some k → PartsLaid nodes shows seen round parts at end → LaidInside k round
   inside_part j k get (laid_end e) = cc
   inside_part {round = round} zero k get (laid_next {seen = seen} {i = i} middle e h rest) =
       let same : i ≡ k = cc in
@@ -103,7 +108,8 @@ module _ (nodes : List Node) where
       record { seen = seen; end = middle; is = subst P same h }
   inside_part (suc j) k get (laid_next middle e h rest) = inside_part j k get rest
 
-  inside_inner : {i above around : ℕ} (j : ℕ) (n : Node) → slice_get nodes above ≡ Some n → slice_get (parts_of n) j ≡ Some i → LaidInside above around → LaidInside i (suc around)
+  inside_inner : {i above around : ℕ} (j : ℕ) (n : Node) → slice_get nodes above ≡ Some n
+      → slice_get (parts_of n) j ≡ Some i → LaidInside above around → LaidInside i (suc around)
   inside_inner {i = i} {above = above} {around = around} j n at get h = inner h.is
     where
       inner : {seen : List ℕ} {end : ℕ} → Laid nodes seen around above end → LaidInside i (suc around)
@@ -124,7 +130,8 @@ module _ (nodes : List Node) where
   HasItsParts n = HasParts (head_of n) (length (parts_of n))
 
   mutual
-    has_parts : {seen : List ℕ} {round i end : ℕ} (k : ℕ) (n : Node) → Laid nodes seen round i end → i ≤ k → k < end → slice_get nodes k ≡ Some n → HasItsParts n
+    has_parts : {seen : List ℕ} {round i end : ℕ} (k : ℕ) (n : Node) → Laid nodes seen round i end → i ≤ k → k < end
+        → slice_get nodes k ≡ Some n → HasItsParts n
     has_parts {i = i} k n (laid m at deep head has parts) low high get =
         elim (cases_order i k) [
           | inl same ↦ (let one : m ≡ n = cc (at, get, same) in let P : Node → Type 0 = λ q. HasItsParts q in subst P one has)
@@ -134,7 +141,9 @@ module _ (nodes : List Node) where
           ]
         ]
 
-    have_parts : {shows : Bool} {seen parts : List ℕ} {round at end : ℕ} (k : ℕ) (n : Node) → PartsLaid nodes shows seen round parts at end → at ≤ k → k < end → slice_get nodes k ≡ Some n → HasItsParts n
+    have_parts : {shows : Bool} {seen parts : List ℕ} {round at end : ℕ} (k : ℕ) (n : Node)
+        → PartsLaid nodes shows seen round parts at end → at ≤ k → k < end → slice_get nodes k ≡ Some n
+        → HasItsParts n
     have_parts k n (laid_end e) low high get = absurd (omega arith)
     have_parts k n (laid_next middle e h rest) low high get =
         elim (cases_lt k middle) [

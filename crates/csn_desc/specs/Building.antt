@@ -1,6 +1,7 @@
 -- A description while it is built, from its root on: nodes are entered, each inside the last one that was not
 -- left, and left again. That a description is built so is this project's own choice.
-use Rattle.std.specs.Prelude.{◌≡◌, ℕ, suc, ◌<◌, Bool, false, if◌then◌else◌, ◌==◌, nat_lt, ◌&&◌, not, IsTrue, List, [], ◌∷◌, ◌++◌, length, set, drop, slice_get, Option, Some, None, IsSomeAnd, Contains}
+use Rattle.std.specs.Prelude.{◌≡◌, ℕ, suc, ◌<◌, Bool, false, if◌then◌else◌, ◌==◌, nat_lt, ◌&&◌, not, IsTrue, List, []}
+use Rattle.std.specs.Prelude.{◌∷◌, ◌++◌, length, set, drop, slice_get, Option, Some, None, IsSomeAnd, Contains}
 use Rattle.std.specs.List.{list_any}
 use Rattle.csn_desc.specs.declared.reading.Reading.{Reading}
 use Rattle.csn_desc.specs.declared.node.Node.{Node}

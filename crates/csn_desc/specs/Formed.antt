@@ -1,6 +1,8 @@
 -- Which descriptions are well formed. That a description is numbered nodes, and the limits on it, are this
 -- project's own choice.
-use Rattle.std.specs.Prelude.{◌≡◌, ℕ, suc, ◌*◌, ◌^◌, ◌<◌, ◌≤◌, ◌⊎◌, ⊤, Bool, true, false, if◌then◌else◌, ◌==◌, List, [], ◌∷◌, length, map, slice_get, Option, Some, None, IsTrue, IsSome, IsSomeAnd, Contains, count_by}
+use Rattle.std.specs.Prelude.{◌≡◌, ℕ, suc, ◌*◌, ◌^◌, ◌<◌, ◌≤◌, ◌⊎◌, ⊤, Bool, true, false, if◌then◌else◌, ◌==◌, List}
+use Rattle.std.specs.Prelude.{[], ◌∷◌, length, map, slice_get, Option, Some, None, IsTrue, IsSome, IsSomeAnd}
+use Rattle.std.specs.Prelude.{Contains, count_by}
 use Rattle.std.specs.Option.{option_and_then}
 use Rattle.std.specs.List.{list_any, range_with_len}
 use Rattle.csn_desc.specs.declared.symbol.Symbol.TheVariants.{Zero, Low}

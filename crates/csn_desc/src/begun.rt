@@ -1,6 +1,7 @@
 //! What is asked and written of single nodes while a description is built.
 
-ghost use Rattle.std.specs.Prelude.{◌≡◌, ◌<◌, ◌≤◌, ◌↔◌, ◌==◌, IsTrue, IsSomeAnd, ℕ, option_to_list, [], ◌∷◌, ◌++◌, if◌then◌else◌, length, set, slice_get, option_copied, OnOk, OnErr};
+ghost use Rattle.std.specs.Prelude.{◌≡◌, ◌<◌, ◌≤◌, ◌↔◌, ◌==◌, IsTrue, IsSomeAnd, ℕ, option_to_list, [], ◌∷◌, ◌++◌};
+ghost use Rattle.std.specs.Prelude.{if◌then◌else◌, length, set, slice_get, option_copied, OnOk, OnErr};
 ghost use Rattle.std.specs.Prelude.{reverse};
 ghost use Rattle.std.specs.List.{list_any};
 ghost use Rattle.csn_desc.specs.Nodes.{head_of, parts_of};
@@ -57,7 +58,8 @@ fn add_part(node: &mut Node, part: u16) -> Result<(), NoMemory>
 fn add_part_above(nodes: &mut Vec<Node>, above: Option<u16>, part: u16) -> Result<(), NoMemory>
     requires { (i : ℕ) → above ≡ Some i → (n : Node) × (slice_get nodes.old.items i ≡ Some n) × (length (parts_of n) < MOST_NODES) }
     ensures none { above ≡ None → nodes.new.items ≡ nodes.old.items }
-    ensures some { (i : ℕ) (n : Node) → above ≡ Some i → slice_get nodes.old.items i ≡ Some n → OnOk result (nodes.new.items ≡ set nodes.old.items i (with_part part n)) }
+    ensures some { (i : ℕ) (n : Node) → above ≡ Some i → slice_get nodes.old.items i ≡ Some n → OnOk result
+        (nodes.new.items ≡ set nodes.old.items i (with_part part n)) }
     ensures err { OnErr result (nodes.new.items ≡ nodes.old.items) }
 {
     match above {

@@ -157,7 +157,9 @@ impl DescBuilder {
 
     /// The innermost node, and whether a part of it was entered.
     fn innermost(&self) -> Option<(&Node, bool)>
-        ensures { MatchOption result (self.now.around ≡ []) (λ found. (i : ℕ) × (rest : List ℕ) × (self.now.around ≡ i ∷ rest) × (slice_get self.now.nodes i ≡ Some found.0.now) × (found.1 ≡ nat_lt (suc i) (length self.now.nodes))) }
+        ensures { MatchOption result (self.now.around ≡ []) (λ found. (i : ℕ) × (rest : List ℕ)
+            × (self.now.around ≡ i ∷ rest) × (slice_get self.now.nodes i ≡ Some found.0.now)
+            × (found.1 ≡ nat_lt (suc i) (length self.now.nodes))) }
     {
         let at = *self.around.last()? as usize;
         Some((&self.nodes[at], at + 1 < self.nodes.len()))

@@ -1,6 +1,11 @@
 //! Laws over the definitions, each the contract of a function that does nothing.
 
-ghost use Rattle.csn_desc.specs.Laws.{PrefixesAreFollowed, StringsAreFollowed, MeaningsAreBits, FollowedAreBits, EmptyBitsAreFollowed, EmptyBlocksAreFollowed, MeaningIsDecided, FollowingIsDecided, BlocksHaveAPlace, BlocksHaveOnePlace, TreesHaveMoves, TreesHaveOneListOfMoves, MovesAreOfOneTree, ValuesHaveTheirWidth, NumbersFitTheirWidth, ValuesStayThere, ValuesStayFitting, NoValuesFit, CountsAreNumbers, NodesAreWellFormed, WordsAreLabels, WordsStandBeforeLabels};
+ghost use Rattle.csn_desc.specs.Laws.{PrefixesAreFollowed, StringsAreFollowed, MeaningsAreBits, FollowedAreBits};
+ghost use Rattle.csn_desc.specs.Laws.{EmptyBitsAreFollowed, EmptyBlocksAreFollowed, MeaningIsDecided};
+ghost use Rattle.csn_desc.specs.Laws.{FollowingIsDecided, BlocksHaveAPlace, BlocksHaveOnePlace, TreesHaveMoves};
+ghost use Rattle.csn_desc.specs.Laws.{TreesHaveOneListOfMoves, MovesAreOfOneTree, ValuesHaveTheirWidth};
+ghost use Rattle.csn_desc.specs.Laws.{NumbersFitTheirWidth, ValuesStayThere, ValuesStayFitting, NoValuesFit};
+ghost use Rattle.csn_desc.specs.Laws.{CountsAreNumbers, NodesAreWellFormed, WordsAreLabels, WordsStandBeforeLabels};
 
 /// The first few of bits that a node follows are followed by it.
 pub fn prefixes_are_followed()

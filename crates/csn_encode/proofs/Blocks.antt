@@ -44,7 +44,8 @@ module _ (d : DescV) (is : IsDescription d) (certified : Certified d 12) (free :
 
 -- ---- what is written of the root
 
-pub root_stands : (d : DescV) (draft : Draft) → IsDescription d → Certified d 12 → draft.bits ≡ [] → draft.path ≡ [] → draft.numbers.items ≡ [] → Stands d 0 0 [] draft
+pub root_stands : (d : DescV) (draft : Draft) → IsDescription d → Certified d 12 → draft.bits ≡ [] → draft.path ≡ []
+    → draft.numbers.items ≡ [] → Stands d 0 0 [] draft
 root_stands d draft is certified bits path numbers =
     record {
       ready =
@@ -66,7 +67,8 @@ root_adds d t old new none h =
     let Q : List ℕ → Type 0 = λ b. NMeans d 0 0 [] b t in
     record { means = subst Q (sym (h.bits ∙ ap (λ l. l ++ h.added) none)) (subst P (ap length none) h.meant); within = h.within }
 
-pub root_misses : (d : DescV) (t : TreeV) (old new : Draft) (why : MisfitWhy) → old.bits ≡ [] → old.path ≡ [] → MissesBy d 0 [] t old new why → IsMisfit d t new.path why × HasNoBlock d t
+pub root_misses : (d : DescV) (t : TreeV) (old new : Draft) (why : MisfitWhy) → old.bits ≡ [] → old.path ≡ []
+    → MissesBy d 0 [] t old new why → IsMisfit d t new.path why × HasNoBlock d t
 root_misses d t old new why none start h =
     let P : ℕ → Type 0 = λ o. Misses d 0 o [] t h.below why in
     let Q : List ℕ → Type 0 = λ p. Misses d 0 0 [] t p why in
@@ -76,7 +78,8 @@ root_misses d t old new why none start h =
 -- ---- what is answered
 
 -- the bits that were taken of a draft
-pub taken_block : (d : DescV) (t : TreeV) (draft : Draft) (taken : Option (List ℕ)) (r : Result (List ℕ) EncodeFault) → r ≡ ok_or taken fault.NoMemory → IfSome taken (λ b. b ≡ draft.bits)
+pub taken_block : (d : DescV) (t : TreeV) (draft : Draft) (taken : Option (List ℕ)) (r : Result (List ℕ) EncodeFault)
+    → r ≡ ok_or taken fault.NoMemory → IfSome taken (λ b. b ≡ draft.bits)
     → IsBlockOf d t draft.bits → IfOk r (λ b. IsBlockOf d t b)
 taken_block d t draft None r same is block = let P : Result (List ℕ) EncodeFault → Type 0 = λ x. IfOk x (λ b. IsBlockOf d t b) in subst P (sym same) tt
 taken_block d t draft (Some b) r same is block =
@@ -84,14 +87,16 @@ taken_block d t draft (Some b) r same is block =
     let Q : List ℕ → Type 0 = λ l. IsBlockOf d t l in
     subst P (sym same) (subst Q (sym is) block)
 
-pub untaken : (d : DescV) (t : TreeV) (taken : Option (List ℕ)) (r : Result (List ℕ) EncodeFault) → r ≡ ok_or taken fault.NoMemory → IfErr r (λ e. IsFaultOf d t e)
+pub untaken : (d : DescV) (t : TreeV) (taken : Option (List ℕ)) (r : Result (List ℕ) EncodeFault)
+    → r ≡ ok_or taken fault.NoMemory → IfErr r (λ e. IsFaultOf d t e)
 untaken d t None r same = let P : Result (List ℕ) EncodeFault → Type 0 = λ x. IfErr x (λ e. IsFaultOf d t e) in subst P (sym same) tt
 untaken d t (Some b) r same = let P : Result (List ℕ) EncodeFault → Type 0 = λ x. IfErr x (λ e. IsFaultOf d t e) in subst P (sym same) tt
 
 -- the fault of a draft that was stopped
 pub stopped : (d : DescV) (t : TreeV) (old new : Draft) (why : Stop) (e : EncodeFault) → old.bits ≡ [] → old.path ≡ [] → Stands d 0 0 [] old
     → IfMisfit why (λ reason. (v : Values) → Stands d 0 0 v old → MissesBy d 0 v t old new reason)
-    → ((reason : MisfitWhy) → why ≡ stop.Misfit reason → e ≡ fault.Misfit (record { path = new.path; why = reason })) → (why ≡ stop.NoMemory → e ≡ fault.NoMemory) → IsFaultOf d t e
+    → ((reason : MisfitWhy) → why ≡ stop.Misfit reason → e ≡ fault.Misfit (record { path = new.path; why = reason }))
+    → (why ≡ stop.NoMemory → e ≡ fault.NoMemory) → IsFaultOf d t e
 stopped d t old new (stop.Misfit reason) e none start stands missed misfit memory =
     subst (IsFaultOf d t) (sym (misfit reason refl)) (root_misses d t old new reason none start (missed [] stands))
 stopped d t old new stop.NoMemory e none start stands missed misfit memory = subst (IsFaultOf d t) (sym (memory refl)) tt

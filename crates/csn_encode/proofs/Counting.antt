@@ -1,5 +1,6 @@
 -- Fields that counts stand on, and the numbers that are kept of them.
-use Rattle.std.proofs.Common.{◌≡◌, ℕ, ◌+◌, ◌*◌, ◌<◌, ◌≤◌, Bool, true, false, if◌then◌else◌, List, [], ◌∷◌, ◌++◌, length, refl, ap, arith, Option, Some, None, slice_get}
+use Rattle.std.proofs.Common.{◌≡◌, ℕ, ◌+◌, ◌*◌, ◌<◌, ◌≤◌, Bool, true, false, if◌then◌else◌, List, [], ◌∷◌, ◌++◌}
+use Rattle.std.proofs.Common.{length, refl, ap, arith, Option, Some, None, slice_get}
 use Rattle.std.specs.Option.{option_map, option_and_then}
 use Rattle.csn_bits.specs.Numbers.{number_of}
 use Rattle.csn_desc.specs.declared.node.Count.{Count}
@@ -27,7 +28,9 @@ module _ (d : DescV) where
 
 -- ---- a labelled field that counts stand on
 
-labelled_named : (node : Option Node) (nodes : List Node) → FewBits (option_and_then (λ part. width_of (slice_get nodes part)) (labelled_part node)) → is_labelled node ≡ true
+labelled_named : (node : Option Node) (nodes : List Node)
+    → FewBits (option_and_then (λ part. width_of (slice_get nodes part)) (labelled_part node))
+    → is_labelled node ≡ true
 labelled_named None nodes few = absurd few
 labelled_named (Some (Named label part)) nodes few = refl
 labelled_named (Some (Lits run)) nodes few = absurd few
@@ -58,7 +61,11 @@ module _ (d : DescV) where
 
   -- what is kept behind a part
   pub numbers_behind : IsDescription d → (i : ℕ) (b : List ℕ) (v : Values)
-      → numbers_of d (with_value d.nodes i b v) ≡ (if is_counted d.nodes i then numbers_of d v ++ record { field = i; value = number_of b } ∷ [] else numbers_of d v)
+      → numbers_of d (with_value d.nodes i b v) ≡ (if is_counted d.nodes i then numbers_of d v ++ record {
+        field =
+            i;
+        value = number_of b;
+      } ∷ [] else numbers_of d v)
   numbers_behind is i b v = by (is_counted d.nodes i) refl (is_named d.nodes i) refl
     where
       more : List Number

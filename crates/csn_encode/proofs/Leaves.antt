@@ -1,5 +1,6 @@
 -- The bits of leaves: those that a symbol stands for, and the numbers that they write.
-use Rattle.std.proofs.Common.{◌≡◌, ℕ, zero, suc, ◌+◌, ◌-◌, ◌*◌, ◌<◌, ◌≤◌, List, [], ◌∷◌, ◌++◌, length, take, drop, get_or, refl, sym, ◌∙◌, ap, arith, Some, slice_get}
+use Rattle.std.proofs.Common.{◌≡◌, ℕ, zero, suc, ◌+◌, ◌-◌, ◌*◌, ◌<◌, ◌≤◌, List, [], ◌∷◌, ◌++◌, length, take, drop}
+use Rattle.std.proofs.Common.{get_or, refl, sym, ◌∙◌, ap, arith, Some, slice_get}
 use Rattle.std.specs.Prelude.{replicate}
 use Rattle.std.proofs.lemmas.List.{length-take-le, take_more, drop-append-le}
 use Rattle.std.proofs.lemmas.Option.{slice_get_within, get_or_from_slice_get}
@@ -14,7 +15,8 @@ take_next l k s at = take_more l k s (slice_get_within l k s at) ∙ ap (λ x. t
 
 -- ---- symbols
 
-spelled-push : (front : List Symbol) (s : Symbol) (place : ℕ) → spelled (front ++ s ∷ []) place ≡ spelled front place ++ symbol_bit s (place + length front) ∷ []
+spelled-push : (front : List Symbol) (s : Symbol) (place : ℕ)
+    → spelled (front ++ s ∷ []) place ≡ spelled front place ++ symbol_bit s (place + length front) ∷ []
 spelled-push [] s place = ap (λ k. symbol_bit s k ∷ []) (omega arith)
 spelled-push (x ∷ front) s place =
     let e : suc place + length front ≡ place + length (x ∷ front) = omega arith in
@@ -29,14 +31,17 @@ spelled-next run at place next s here less is =
     ∙ ap (λ k. spelled (take at run) place ++ symbol_bit s k ∷ []) (ap (λ k. place + k) long ∙ sym is)
 
 -- bits each of which the symbol stands for
-pub all_sent : (s : Symbol) (bits : List ℕ) (place : ℕ) → ((k : ℕ) → k < length bits → get_or bits k 0 ≡ symbol_bit s (place + k)) → bits ≡ spelled (replicate (length bits) s) place
+pub all_sent : (s : Symbol) (bits : List ℕ) (place : ℕ)
+    → ((k : ℕ) → k < length bits → get_or bits k 0 ≡ symbol_bit s (place + k))
+    → bits ≡ spelled (replicate (length bits) s) place
 all_sent s [] place each = refl
 all_sent s (b ∷ bits) place each =
     let first : b ≡ symbol_bit s place = each 0 (omega arith) ∙ ap (λ k. symbol_bit s k) (omega arith) in
     let rest = all_sent s bits (suc place) (λ k less. each (suc k) (omega arith) ∙ ap (λ k. symbol_bit s k) (omega arith)) in
     ap (λ x. x ∷ bits) first ∙ ap (λ l. symbol_bit s place ∷ l) rest
 
-pub each_sent : (s : Symbol) (bits : List ℕ) (place k : ℕ) → bits ≡ spelled (replicate (length bits) s) place → k < length bits → get_or bits k 0 ≡ symbol_bit s (place + k)
+pub each_sent : (s : Symbol) (bits : List ℕ) (place k : ℕ) → bits ≡ spelled (replicate (length bits) s) place
+    → k < length bits → get_or bits k 0 ≡ symbol_bit s (place + k)
 each_sent s [] place k all less = absurd (omega arith)
 each_sent s (b ∷ bits) place zero all less =
     let first : b ≡ symbol_bit s place = cc in

@@ -9,11 +9,20 @@ use Rattle.csn_desc.specs.TreeV.{TreeV, Trees, none}
 use Rattle.csn_desc.specs.Nodes.{DescV}
 use Rattle.csn_desc.specs.Spelled.{IsSpare}
 use Rattle.csn_desc.specs.Values.{Values}
-use Rattle.csn_desc.specs.Means.{NMeans, NodeMeans, PartsMean, TimesMean, ManyMean, LeadMean, means_lits, means_spare, means_pad, means_null, means_field, means_rest, means_seq, means_choice, means_times, means_many, means_cut, means_trunc, means_window, means_named, parts_end, parts_next, times_end, times_next, many_end, many_next, lead_last, lead_next}
+use Rattle.csn_desc.specs.Means.{NMeans, NodeMeans, PartsMean, TimesMean, ManyMean, LeadMean, means_lits, means_spare}
+use Rattle.csn_desc.specs.Means.{means_pad, means_null, means_field, means_rest, means_seq, means_choice, means_times}
+use Rattle.csn_desc.specs.Means.{means_many, means_cut, means_trunc, means_window, means_named, parts_end, parts_next}
+use Rattle.csn_desc.specs.Means.{times_end, times_next, many_end, many_next, lead_last, lead_next}
 use Rattle.csn_desc.proofs.BitFacts.{length-spelled}
 use Rattle.csn_desc.proofs.Nodewise.{meaning_at}
 use Rattle.csn_encode.specs.declared.misfit.MisfitWhy.{MisfitWhy}
-use Rattle.csn_encode.specs.Misfits.{has_kind, tree_count, IsWithin, kept_with, kept_count, HavePieces, pieces_end, pieces_next, MissesNode, wrong_kind, wrong_label, wrong_seq, wrong_times, wrong_trunc, idle_trunc, wrong_field, wide_spare, no_pad, wrong_spare, wrong_pad, no_alternative, wrong_window, past_lits, past_field, past_rest, past_spare, past_pad, Misses, MissesIn, MissesParts, MissesRepeats, misses_at, misses_here, misses_named, misses_choice, misses_window, misses_seq, misses_trunc, misses_times, misses_many, parts_here, parts_later, repeats_here, repeats_later}
+use Rattle.csn_encode.specs.Misfits.{has_kind, tree_count, IsWithin, kept_with, kept_count, HavePieces, pieces_end}
+use Rattle.csn_encode.specs.Misfits.{pieces_next, MissesNode, wrong_kind, wrong_label, wrong_seq, wrong_times}
+use Rattle.csn_encode.specs.Misfits.{wrong_trunc, idle_trunc, wrong_field, wide_spare, no_pad, wrong_spare, wrong_pad}
+use Rattle.csn_encode.specs.Misfits.{no_alternative, wrong_window, past_lits, past_field, past_rest, past_spare}
+use Rattle.csn_encode.specs.Misfits.{past_pad, Misses, MissesIn, MissesParts, MissesRepeats, misses_at, misses_here}
+use Rattle.csn_encode.specs.Misfits.{misses_named, misses_choice, misses_window, misses_seq, misses_trunc}
+use Rattle.csn_encode.specs.Misfits.{misses_times, misses_many, parts_here, parts_later, repeats_here, repeats_later}
 use Rattle.csn_encode.proofs.OneBits.{one_bits}
 
 pub spare_in : {r q : Reading} (s : Symbol) {o p : ℕ} {b c : List ℕ} → r ≡ q → o ≡ p → b ≡ c → IsSpare r s o b → IsSpare q s p c
@@ -81,7 +90,9 @@ module _ (d : DescV) where
   no_pieces (pieces_next b later e h within hs) same = absurd (cc)
 
   -- of a truncation that has bits all pieces are kept, and there is one at least
-  kept_all : {parts : List ℕ} {o p : ℕ} {v w : Values} {c : List ℕ} {ts us : Trees} {pieces : List (List ℕ)} → HavePieces d parts o v ts pieces → LeadMean d parts p w c us → o ≡ p → v ≡ w → ts ≡ us → (kept_count pieces ≡ length pieces) × (0 < length pieces)
+  kept_all : {parts : List ℕ} {o p : ℕ} {v w : Values} {c : List ℕ} {ts us : Trees} {pieces : List (List ℕ)}
+      → HavePieces d parts o v ts pieces → LeadMean d parts p w c us → o ≡ p → v ≡ w → ts ≡ us
+      → (kept_count pieces ≡ length pieces) × (0 < length pieces)
   kept_all (pieces_end e) (lead_last least k) place seen same = absurd (cc)
   kept_all (pieces_end e) (lead_next c1 c2 split k ks) place seen same = absurd (cc)
   kept_all {pieces = pieces} (pieces_next b later e h within hs) (lead_last {b = c} least k) place seen same =
@@ -104,7 +115,8 @@ module _ (d : DescV) where
   no_part (parts_later b m within hs) same = cc
 
   -- a node that is missed itself
-  clash_node : {n : Node} {o p : ℕ} {v w : Values} {t u : TreeV} {why : MisfitWhy} {b : List ℕ} → MissesNode d n o v t why → NodeMeans d n p w b u → o ≡ p → v ≡ w → t ≡ u → IsWithin p b → ⊥
+  clash_node : {n : Node} {o p : ℕ} {v w : Values} {t u : TreeV} {why : MisfitWhy} {b : List ℕ}
+      → MissesNode d n o v t why → NodeMeans d n p w b u → o ≡ p → v ≡ w → t ≡ u → IsWithin p b → ⊥
   clash_node (wrong_kind h e) m place seen same within = let k = kind_of m in cc
   clash_node (wrong_label h e) (means_named m) place seen same within = h (cc)
   clash_node (wrong_seq h e) (means_seq m) place seen same within = let k = parts_count m in h (cc)
@@ -124,7 +136,8 @@ module _ (d : DescV) where
   clash_node (wrong_pad least reading h e) (means_pad k m) place seen same within = h (spare_in Low reading (sym place) (cc) m)
   clash_node (no_alternative {parts = parts} {j = j} h e) (means_choice {j = k} {i = i} at m) place seen same within =
       let number : j ≡ k = cc in let below = slice_get_within parts k i at in omega arith
-  clash_node (wrong_window n c count h room wide e) (means_window k counts width m) place seen same within = let one = one_bits d h m refl place seen same in wide (cc)
+  clash_node (wrong_window n c count h room wide e) (means_window k counts width m) place seen same within = let one =
+      one_bits d h m refl place seen same in wide (cc)
   clash_node {p = p} (past_lits {run = run} h e) (means_lits m) place seen same within =
       let long = ap length m ∙ length-spelled run p in omega (arith, long)
   clash_node {b = c} (past_field {b = b} n count wide h e) (means_field k counts width m) place seen same within =
@@ -136,10 +149,12 @@ module _ (d : DescV) where
       let one_string : b ≡ c = cc in let long = ap length one_string in omega (arith, long)
 
   mutual
-    pub clash : {i k o p : ℕ} {v w : Values} {t u : TreeV} {path : List ℕ} {why : MisfitWhy} {b : List ℕ} → Misses d i o v t path why → NMeans d k p w b u → i ≡ k → o ≡ p → v ≡ w → t ≡ u → IsWithin p b → ⊥
+    pub clash : {i k o p : ℕ} {v w : Values} {t u : TreeV} {path : List ℕ} {why : MisfitWhy} {b : List ℕ}
+        → Misses d i o v t path why → NMeans d k p w b u → i ≡ k → o ≡ p → v ≡ w → t ≡ u → IsWithin p b → ⊥
     clash (misses_at n at h) m node place seen same within = clash_in h (meaning_at d (cc) m) place seen same within
 
-    clash_in : {n : Node} {o p : ℕ} {v w : Values} {t u : TreeV} {path : List ℕ} {why : MisfitWhy} {b : List ℕ} → MissesIn d n o v t path why → NodeMeans d n p w b u → o ≡ p → v ≡ w → t ≡ u → IsWithin p b → ⊥
+    clash_in : {n : Node} {o p : ℕ} {v w : Values} {t u : TreeV} {path : List ℕ} {why : MisfitWhy} {b : List ℕ}
+        → MissesIn d n o v t path why → NodeMeans d n p w b u → o ≡ p → v ≡ w → t ≡ u → IsWithin p b → ⊥
     clash_in (misses_here e h) m place seen same within = clash_node h m place seen same within
     clash_in (misses_named below e label h) (means_named m) place seen same within = clash h m refl place seen (cc) within
     clash_in (misses_choice below e at h) (means_choice there m) place seen same within = clash h m (cc) place seen (cc) within
@@ -150,30 +165,40 @@ module _ (d : DescV) where
     clash_in (misses_times n count wanted h) (means_times k counts m) place seen same within = clash_times h m place seen (cc) within
     clash_in (misses_many h) (means_many m) place seen same within = clash_many h m place seen (cc) within
 
-    clash_parts : {parts : List ℕ} {at o p : ℕ} {v w : Values} {ts us : Trees} {path : List ℕ} {why : MisfitWhy} {b : List ℕ} → MissesParts d parts at o v ts path why → PartsMean d parts p w b us → o ≡ p → v ≡ w → ts ≡ us → IsWithin p b → ⊥
-    clash_parts {p = p} (parts_here below e h) (parts_next b1 b2 cut m ms) place seen same within = clash h m refl place seen (cc) (first_within p b1 b2 cut within)
+    clash_parts : {parts : List ℕ} {at o p : ℕ} {v w : Values} {ts us : Trees} {path : List ℕ} {why : MisfitWhy}
+        {b : List ℕ} → MissesParts d parts at o v ts path why → PartsMean d parts p w b us → o ≡ p → v ≡ w → ts ≡ us
+        → IsWithin p b → ⊥
+    clash_parts {p = p} (parts_here below e h) (parts_next b1 b2 cut m ms) place seen same within =
+        clash h m refl place seen (cc) (first_within p b1 b2 cut within)
     clash_parts {p = p} (parts_later b0 k room hs) (parts_next b1 b2 cut m ms) place seen same within =
         let one = one_bits d k m refl place seen (cc) in
         clash_parts hs ms (cc) (cc) (cc) (rest_within p b1 b2 cut within)
 
-    clash_lead : {parts : List ℕ} {at o p : ℕ} {v w : Values} {ts us : Trees} {path : List ℕ} {why : MisfitWhy} {b : List ℕ} → MissesParts d parts at o v ts path why → LeadMean d parts p w b us → o ≡ p → v ≡ w → ts ≡ us → IsWithin p b → ⊥
+    clash_lead : {parts : List ℕ} {at o p : ℕ} {v w : Values} {ts us : Trees} {path : List ℕ} {why : MisfitWhy}
+        {b : List ℕ} → MissesParts d parts at o v ts path why → LeadMean d parts p w b us → o ≡ p → v ≡ w → ts ≡ us
+        → IsWithin p b → ⊥
     clash_lead (parts_here below e h) (lead_last least m) place seen same within = clash h m refl place seen (cc) within
     clash_lead (parts_later b0 k room hs) (lead_last least m) place seen same within = no_part hs (cc)
-    clash_lead {p = p} (parts_here below e h) (lead_next b1 b2 cut m ms) place seen same within = clash h m refl place seen (cc) (first_within p b1 b2 cut within)
+    clash_lead {p = p} (parts_here below e h) (lead_next b1 b2 cut m ms) place seen same within =
+        clash h m refl place seen (cc) (first_within p b1 b2 cut within)
     clash_lead {p = p} (parts_later b0 k room hs) (lead_next b1 b2 cut m ms) place seen same within =
         let one = one_bits d k m refl place seen (cc) in
         clash_lead hs ms (cc) (cc) (cc) (rest_within p b1 b2 cut within)
 
-    clash_times : {n i at o p : ℕ} {v w : Values} {ts us : Trees} {path : List ℕ} {why : MisfitWhy} {b : List ℕ} → MissesRepeats d i at o v ts path why → TimesMean d n i p w b us → o ≡ p → v ≡ w → ts ≡ us → IsWithin p b → ⊥
+    clash_times : {n i at o p : ℕ} {v w : Values} {ts us : Trees} {path : List ℕ} {why : MisfitWhy} {b : List ℕ}
+        → MissesRepeats d i at o v ts path why → TimesMean d n i p w b us → o ≡ p → v ≡ w → ts ≡ us → IsWithin p b → ⊥
     clash_times h (times_end over m) place seen same within = no_repeat h same
-    clash_times {p = p} (repeats_here below e h) (times_next l is b1 b2 cut m ms) place seen same within = clash h m refl place seen (cc) (first_within p b1 b2 cut within)
+    clash_times {p = p} (repeats_here below e h) (times_next l is b1 b2 cut m ms) place seen same within =
+        clash h m refl place seen (cc) (first_within p b1 b2 cut within)
     clash_times {p = p} (repeats_later b0 k room hs) (times_next l is b1 b2 cut m ms) place seen same within =
         let one = one_bits d k m refl place seen (cc) in
         clash_times hs ms (cc) seen (cc) (rest_within p b1 b2 cut within)
 
-    clash_many : {i at o p : ℕ} {v w : Values} {ts us : Trees} {path : List ℕ} {why : MisfitWhy} {b : List ℕ} → MissesRepeats d i at o v ts path why → ManyMean d i p w b us → o ≡ p → v ≡ w → ts ≡ us → IsWithin p b → ⊥
+    clash_many : {i at o p : ℕ} {v w : Values} {ts us : Trees} {path : List ℕ} {why : MisfitWhy} {b : List ℕ}
+        → MissesRepeats d i at o v ts path why → ManyMean d i p w b us → o ≡ p → v ≡ w → ts ≡ us → IsWithin p b → ⊥
     clash_many h (many_end m) place seen same within = no_repeat h same
-    clash_many {p = p} (repeats_here below e h) (many_next b1 b2 cut least m ms) place seen same within = clash h m refl place seen (cc) (first_within p b1 b2 cut within)
+    clash_many {p = p} (repeats_here below e h) (many_next b1 b2 cut least m ms) place seen same within =
+        clash h m refl place seen (cc) (first_within p b1 b2 cut within)
     clash_many {p = p} (repeats_later b0 k room hs) (many_next b1 b2 cut least m ms) place seen same within =
         let one = one_bits d k m refl place seen (cc) in
         clash_many hs ms (cc) seen (cc) (rest_within p b1 b2 cut within)

@@ -4,7 +4,11 @@ use Rattle.csn_desc.specs.declared.node.Node.{Node}
 use Rattle.csn_desc.specs.TreeV.{TreeV, Trees, none}
 use Rattle.csn_desc.specs.Nodes.{DescV}
 use Rattle.csn_desc.specs.Values.{Values}
-use Rattle.csn_desc.specs.Means.{NMeans, NodeMeans, PartsMean, TimesMean, ManyMean, LeadMean, means_at, means_lits, means_spare, means_pad, means_null, means_field, means_rest, means_seq, means_choice, means_times, means_many, means_cut, means_trunc, means_window, means_named, parts_end, parts_next, times_end, times_next, many_end, many_next, lead_last, lead_next}
+use Rattle.csn_desc.specs.Means.{NMeans, NodeMeans, PartsMean, TimesMean, ManyMean, LeadMean, means_at, means_lits}
+use Rattle.csn_desc.specs.Means.{means_spare, means_pad, means_null, means_field, means_rest, means_seq, means_choice}
+use Rattle.csn_desc.specs.Means.{means_times, means_many, means_cut, means_trunc, means_window, means_named}
+use Rattle.csn_desc.specs.Means.{parts_end, parts_next, times_end, times_next, many_end, many_next, lead_last}
+use Rattle.csn_desc.specs.Means.{lead_next}
 use Rattle.csn_desc.proofs.Nodewise.{meaning_at}
 
 module _ (d : DescV) where
@@ -38,13 +42,15 @@ module _ (d : DescV) where
     one_node (means_window n count wide h) (means_window m counts width k) place seen same = one_bits h k refl place seen same
     one_node (means_named h) (means_named k) place seen same = one_bits h k refl place seen (cc)
 
-    one_parts : {parts : List ℕ} {o p : ℕ} {v w : Values} {b c : List ℕ} {ts us : Trees} → PartsMean d parts o v b ts → PartsMean d parts p w c us → o ≡ p → v ≡ w → ts ≡ us → b ≡ c
+    one_parts : {parts : List ℕ} {o p : ℕ} {v w : Values} {b c : List ℕ} {ts us : Trees}
+        → PartsMean d parts o v b ts → PartsMean d parts p w c us → o ≡ p → v ≡ w → ts ≡ us → b ≡ c
     one_parts (parts_end h) (parts_end k) place seen same = cc
     one_parts (parts_next b1 b2 cut h hs) (parts_next c1 c2 split k ks) place seen same =
         let first = one_bits h k refl place seen (cc) in
         joined b1 b2 c1 c2 cut split first (one_parts hs ks (cc) (cc) (cc))
 
-    one_times : {n m i o p : ℕ} {v w : Values} {b c : List ℕ} {ts us : Trees} → TimesMean d n i o v b ts → TimesMean d m i p w c us → o ≡ p → v ≡ w → ts ≡ us → b ≡ c
+    one_times : {n m i o p : ℕ} {v w : Values} {b c : List ℕ} {ts us : Trees}
+        → TimesMean d n i o v b ts → TimesMean d m i p w c us → o ≡ p → v ≡ w → ts ≡ us → b ≡ c
     one_times (times_end over h) (times_end done k) place seen same = cc
     one_times (times_end over h) (times_next n are c1 c2 split k ks) place seen same = cc
     one_times (times_next m is b1 b2 cut h hs) (times_end done k) place seen same = cc
@@ -60,7 +66,8 @@ module _ (d : DescV) where
         let first = one_bits h k refl place seen (cc) in
         joined b1 b2 c1 c2 cut split first (one_many hs ks (cc) seen (cc))
 
-    one_lead : {parts : List ℕ} {o p : ℕ} {v w : Values} {b c : List ℕ} {ts us : Trees} → LeadMean d parts o v b ts → LeadMean d parts p w c us → o ≡ p → v ≡ w → ts ≡ us → b ≡ c
+    one_lead : {parts : List ℕ} {o p : ℕ} {v w : Values} {b c : List ℕ} {ts us : Trees}
+        → LeadMean d parts o v b ts → LeadMean d parts p w c us → o ≡ p → v ≡ w → ts ≡ us → b ≡ c
     one_lead (lead_last some h) (lead_last few k) place seen same = one_bits h k refl place seen (cc)
     one_lead (lead_last some h) (lead_next c1 c2 split k ks) place seen same = absurd (lead_some ks (cc))
     one_lead (lead_next b1 b2 cut h hs) (lead_last few k) place seen same = absurd (lead_some hs (cc))

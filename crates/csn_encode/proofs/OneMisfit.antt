@@ -9,7 +9,13 @@ use Rattle.csn_desc.specs.Nodes.{DescV}
 use Rattle.csn_desc.specs.Values.{Values}
 use Rattle.csn_encode.specs.declared.misfit.MisfitWhy.{MisfitWhy}
 use Rattle.csn_encode.specs.declared.misfit.MisfitWhy.TheVariants.{WrongKind}
-use Rattle.csn_encode.specs.Misfits.{has_kind, tree_count, HavePieces, pieces_end, pieces_next, MissesNode, wrong_kind, wrong_label, wrong_seq, wrong_times, wrong_trunc, idle_trunc, wrong_field, wide_spare, no_pad, wrong_spare, wrong_pad, no_alternative, wrong_window, past_lits, past_field, past_rest, past_spare, past_pad, Misses, MissesIn, MissesParts, MissesRepeats, misses_at, misses_here, misses_named, misses_choice, misses_window, misses_seq, misses_trunc, misses_times, misses_many, parts_here, parts_later, repeats_here, repeats_later}
+use Rattle.csn_encode.specs.Misfits.{has_kind, tree_count, HavePieces, pieces_end, pieces_next, MissesNode}
+use Rattle.csn_encode.specs.Misfits.{wrong_kind, wrong_label, wrong_seq, wrong_times, wrong_trunc, idle_trunc}
+use Rattle.csn_encode.specs.Misfits.{wrong_field, wide_spare, no_pad, wrong_spare, wrong_pad, no_alternative}
+use Rattle.csn_encode.specs.Misfits.{wrong_window, past_lits, past_field, past_rest, past_spare, past_pad, Misses}
+use Rattle.csn_encode.specs.Misfits.{MissesIn, MissesParts, MissesRepeats, misses_at, misses_here, misses_named}
+use Rattle.csn_encode.specs.Misfits.{misses_choice, misses_window, misses_seq, misses_trunc, misses_times}
+use Rattle.csn_encode.specs.Misfits.{misses_many, parts_here, parts_later, repeats_here, repeats_later}
 use Rattle.csn_encode.proofs.OneBits.{one_bits}
 use Rattle.csn_encode.proofs.NoBits.{spare_in, clash}
 
@@ -17,7 +23,8 @@ no_length : (b : List ℕ) → b ≡ [] → 0 < length b → ⊥
 no_length b nothing least = let count = ap length nothing in omega (arith, count)
 
 module _ (d : DescV) where
-  miss_node : {i j o : ℕ} {v : Values} {t : TreeV} {path : List ℕ} {why : MisfitWhy} (n : Node) → slice_get d.nodes i ≡ Some n → i ≡ j → Misses d j o v t path why → MissesIn d n o v t path why
+  miss_node : {i j o : ℕ} {v : Values} {t : TreeV} {path : List ℕ} {why : MisfitWhy} (n : Node)
+      → slice_get d.nodes i ≡ Some n → i ≡ j → Misses d j o v t path why → MissesIn d n o v t path why
   miss_node {o = o} {v = v} {t = t} {path = path} {why = why} n here same (misses_at m there h) =
       let one : m ≡ n = cc in
       let P : Node → Type 0 = λ k. MissesIn d k o v t path why in
@@ -25,7 +32,8 @@ module _ (d : DescV) where
 
   -- ---- pieces
 
-  one_pieces : {parts : List ℕ} {o p : ℕ} {v w : Values} {ts us : Trees} {xs ys : List (List ℕ)} → HavePieces d parts o v ts xs → HavePieces d parts p w us ys → o ≡ p → v ≡ w → ts ≡ us → xs ≡ ys
+  one_pieces : {parts : List ℕ} {o p : ℕ} {v w : Values} {ts us : Trees} {xs ys : List (List ℕ)}
+      → HavePieces d parts o v ts xs → HavePieces d parts p w us ys → o ≡ p → v ≡ w → ts ≡ us → xs ≡ ys
   one_pieces (pieces_end e) (pieces_end f) place seen same = cc
   one_pieces (pieces_end e) (pieces_next c later f m room ms) place seen same = cc
   one_pieces (pieces_next b later e h within hs) (pieces_end f) place seen same = cc
@@ -39,7 +47,9 @@ module _ (d : DescV) where
   pieces_count (pieces_next b later e h within hs) = let k = pieces_count hs in omega arith
 
   -- where all trees have bits no part misses
-  clash_pieces : {parts : List ℕ} {at o p : ℕ} {v w : Values} {ts us : Trees} {path : List ℕ} {why : MisfitWhy} {xs : List (List ℕ)} → MissesParts d parts at o v ts path why → HavePieces d parts p w us xs → o ≡ p → v ≡ w → ts ≡ us → ⊥
+  clash_pieces : {parts : List ℕ} {at o p : ℕ} {v w : Values} {ts us : Trees} {path : List ℕ} {why : MisfitWhy}
+      {xs : List (List ℕ)} → MissesParts d parts at o v ts path why → HavePieces d parts p w us xs → o ≡ p → v ≡ w
+      → ts ≡ us → ⊥
   clash_pieces (parts_here below e h) (pieces_end f) place seen same = cc
   clash_pieces (parts_later b k room hs) (pieces_end f) place seen same = cc
   clash_pieces (parts_here below e h) (pieces_next b later f m within ms) place seen same = clash d h m refl place seen (cc) within
@@ -53,7 +63,8 @@ module _ (d : DescV) where
   kind_or (wrong_kind h e) = inr e
   kind_or _ = inl refl
 
-  one_reason : {n : Node} {o p : ℕ} {v w : Values} {t u : TreeV} {why whz : MisfitWhy} → MissesNode d n o v t why → MissesNode d n p w u whz → o ≡ p → v ≡ w → t ≡ u → why ≡ whz
+  one_reason : {n : Node} {o p : ℕ} {v w : Values} {t u : TreeV} {why whz : MisfitWhy}
+      → MissesNode d n o v t why → MissesNode d n p w u whz → o ≡ p → v ≡ w → t ≡ u → why ≡ whz
   one_reason (wrong_kind h e) m place seen same = elim (kind_or m) [ inl right ↦ absurd (cc) | inr wrong ↦ e ∙ sym wrong ]
   one_reason m (wrong_kind h e) place seen same = elim (kind_or m) [ inl right ↦ absurd (cc) | inr wrong ↦ wrong ∙ sym e ]
   one_reason (wrong_label h e) (wrong_label k f) place seen same = cc
@@ -96,12 +107,14 @@ module _ (d : DescV) where
 
   -- ---- at the node or inside it
 
-  kind_in : {n : Node} {o : ℕ} {v : Values} {t : TreeV} {path : List ℕ} {why : MisfitWhy} → MissesIn d n o v t path why → (has_kind n t ≡ true) ⊎ ((path ≡ []) × (why ≡ WrongKind))
+  kind_in : {n : Node} {o : ℕ} {v : Values} {t : TreeV} {path : List ℕ} {why : MisfitWhy}
+      → MissesIn d n o v t path why → (has_kind n t ≡ true) ⊎ ((path ≡ []) × (why ≡ WrongKind))
   kind_in (misses_here e h) = elim (kind_or h) [ inl right ↦ inl right | inr wrong ↦ inr (e, wrong) ]
   kind_in _ = inl refl
 
   -- a tree that misses the node itself misses nothing before that
-  own_first : {n : Node} {o p : ℕ} {v w : Values} {t u : TreeV} {path : List ℕ} {why whz : MisfitWhy} → MissesNode d n o v t why → MissesIn d n p w u path whz → o ≡ p → v ≡ w → t ≡ u → (path ≡ []) × (whz ≡ why)
+  own_first : {n : Node} {o p : ℕ} {v w : Values} {t u : TreeV} {path : List ℕ} {why whz : MisfitWhy}
+      → MissesNode d n o v t why → MissesIn d n p w u path whz → o ≡ p → v ≡ w → t ≡ u → (path ≡ []) × (whz ≡ why)
   own_first (wrong_kind h f) k place seen same = elim (kind_in k) [ inl right ↦ absurd (cc) | inr both ↦ (both.0, both.1 ∙ sym f) ]
   own_first m (misses_here e h) place seen same = (e, sym (one_reason m h place seen same))
   own_first (wrong_label h f) (misses_named below e label k) place seen same = absurd (h (cc))
@@ -117,14 +130,18 @@ module _ (d : DescV) where
   abbrev Agree : List ℕ → List ℕ → MisfitWhy → MisfitWhy → Type 0
   Agree path qath why whz = (path ≡ qath) × (why ≡ whz)
 
-  step_in : {path qath below under : List ℕ} {why whz : MisfitWhy} (at : ℕ) → path ≡ at ∷ below → qath ≡ at ∷ under → Agree below under why whz → Agree path qath why whz
+  step_in : {path qath below under : List ℕ} {why whz : MisfitWhy} (at : ℕ) → path ≡ at ∷ below → qath ≡ at ∷ under
+      → Agree below under why whz → Agree path qath why whz
   step_in at e f both = let same = both.0 in (cc, both.1)
 
   mutual
-    pub one_miss : {i j o p : ℕ} {v w : Values} {t u : TreeV} {path qath : List ℕ} {why whz : MisfitWhy} → Misses d i o v t path why → Misses d j p w u qath whz → i ≡ j → o ≡ p → v ≡ w → t ≡ u → Agree path qath why whz
+    pub one_miss : {i j o p : ℕ} {v w : Values} {t u : TreeV} {path qath : List ℕ} {why whz : MisfitWhy}
+        → Misses d i o v t path why → Misses d j p w u qath whz → i ≡ j → o ≡ p → v ≡ w → t ≡ u
+        → Agree path qath why whz
     one_miss (misses_at n at h) k node place seen same = one_in h (miss_node n at node k) place seen same
 
-    one_in : {n : Node} {o p : ℕ} {v w : Values} {t u : TreeV} {path qath : List ℕ} {why whz : MisfitWhy} → MissesIn d n o v t path why → MissesIn d n p w u qath whz → o ≡ p → v ≡ w → t ≡ u → Agree path qath why whz
+    one_in : {n : Node} {o p : ℕ} {v w : Values} {t u : TreeV} {path qath : List ℕ} {why whz : MisfitWhy}
+        → MissesIn d n o v t path why → MissesIn d n p w u qath whz → o ≡ p → v ≡ w → t ≡ u → Agree path qath why whz
     one_in (misses_here e h) k place seen same = let both = own_first h k place seen same in (e ∙ sym both.0, sym both.1)
     one_in h (misses_here e k) place seen same = let both = own_first k h (sym place) (sym seen) (sym same) in (both.0 ∙ sym e, both.1)
     one_in (misses_named below e label h) (misses_named under f labels k) place seen same = step_in 0 e f (one_miss h k refl place seen (cc))
@@ -135,7 +152,9 @@ module _ (d : DescV) where
     one_in (misses_times n count wanted h) (misses_times m counts wants k) place seen same = one_of_repeats h k place seen (cc)
     one_in (misses_many h) (misses_many k) place seen same = one_of_repeats h k place seen (cc)
 
-    one_of_parts : {parts : List ℕ} {at o p : ℕ} {v w : Values} {ts us : Trees} {path qath : List ℕ} {why whz : MisfitWhy} → MissesParts d parts at o v ts path why → MissesParts d parts at p w us qath whz → o ≡ p → v ≡ w → ts ≡ us → Agree path qath why whz
+    one_of_parts : {parts : List ℕ} {at o p : ℕ} {v w : Values} {ts us : Trees} {path qath : List ℕ}
+        {why whz : MisfitWhy} → MissesParts d parts at o v ts path why → MissesParts d parts at p w us qath whz
+        → o ≡ p → v ≡ w → ts ≡ us → Agree path qath why whz
     one_of_parts {at = at} (parts_here below e h) (parts_here under f k) place seen same = step_in at e f (one_miss h k refl place seen (cc))
     one_of_parts (parts_here below e h) (parts_later c m room ks) place seen same = absurd (clash d h m refl place seen (cc) room)
     one_of_parts (parts_later b m room hs) (parts_here under f k) place seen same = absurd (clash d k m refl (sym place) (sym seen) (cc) room)
@@ -143,7 +162,9 @@ module _ (d : DescV) where
         let one = one_bits d m n refl place seen (cc) in
         one_of_parts hs ks (cc) (cc) (cc)
 
-    one_of_repeats : {i at o p : ℕ} {v w : Values} {ts us : Trees} {path qath : List ℕ} {why whz : MisfitWhy} → MissesRepeats d i at o v ts path why → MissesRepeats d i at p w us qath whz → o ≡ p → v ≡ w → ts ≡ us → Agree path qath why whz
+    one_of_repeats : {i at o p : ℕ} {v w : Values} {ts us : Trees} {path qath : List ℕ} {why whz : MisfitWhy}
+        → MissesRepeats d i at o v ts path why → MissesRepeats d i at p w us qath whz → o ≡ p → v ≡ w → ts ≡ us
+        → Agree path qath why whz
     one_of_repeats {at = at} (repeats_here below e h) (repeats_here under f k) place seen same = step_in at e f (one_miss h k refl place seen (cc))
     one_of_repeats (repeats_here below e h) (repeats_later c m room ks) place seen same = absurd (clash d h m refl place seen (cc) room)
     one_of_repeats (repeats_later b m room hs) (repeats_here under f k) place seen same = absurd (clash d k m refl (sym place) (sym seen) (cc) room)

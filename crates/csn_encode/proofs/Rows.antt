@@ -1,10 +1,13 @@
 -- Rows of trees and the bits of their parts.
-use Rattle.std.proofs.Common.{◌≡◌, ℕ, zero, suc, ◌+◌, ◌<◌, ◌≤◌, ◌⊎◌, inl, inr, List, [], ◌∷◌, ◌++◌, length, drop, append_assoc, append-nil, refl, sym, ◌∙◌, ap, subst, arith, Some, slice_get}
+use Rattle.std.proofs.Common.{◌≡◌, ℕ, zero, suc, ◌+◌, ◌<◌, ◌≤◌, ◌⊎◌, inl, inr, List, [], ◌∷◌, ◌++◌, length, drop}
+use Rattle.std.proofs.Common.{append_assoc, append-nil, refl, sym, ◌∙◌, ap, subst, arith, Some, slice_get}
 use Rattle.csn_desc.specs.declared.node.Node.TheVariants.{Trunc}
 use Rattle.csn_desc.specs.TreeV.{TreeV, row, Trees, none, more, list_of, trees_of}
 use Rattle.csn_desc.specs.Nodes.{DescV}
 use Rattle.csn_desc.specs.Values.{Values}
-use Rattle.csn_desc.specs.Means.{NMeans, NodeMeans, means_cut, means_trunc, PartsMean, parts_end, parts_next, TimesMean, times_end, times_next, ManyMean, many_end, many_next, LeadMean, lead_last, lead_next}
+use Rattle.csn_desc.specs.Means.{NMeans, NodeMeans, means_cut, means_trunc, PartsMean, parts_end, parts_next}
+use Rattle.csn_desc.specs.Means.{TimesMean, times_end, times_next, ManyMean, many_end, many_next, LeadMean, lead_last}
+use Rattle.csn_desc.specs.Means.{lead_next}
 use Rattle.csn_encode.specs.Misfits.{tree_count, kept_with, kept_count, HavePieces, pieces_end, pieces_next}
 use Rattle.csn_encode.specs.Writing.{joined}
 
@@ -67,12 +70,14 @@ kept_within (p ∷ pieces) = by p (kept_count pieces) (kept_within pieces)
 -- ---- what pieces mean
 
 module _ (d : DescV) where
-  pub pieces_count : {parts : List ℕ} {o : ℕ} {v : Values} {ts : Trees} {pieces : List (List ℕ)} → HavePieces d parts o v ts pieces → length pieces ≡ tree_count ts
+  pub pieces_count : {parts : List ℕ} {o : ℕ} {v : Values} {ts : Trees} {pieces : List (List ℕ)}
+      → HavePieces d parts o v ts pieces → length pieces ≡ tree_count ts
   pieces_count (pieces_end e) = ap length e
   pieces_count (pieces_next b later e h within hs) = ap length e ∙ ap suc (pieces_count hs)
 
   -- as many as there are parts are those of a sequence
-  pub pieces_parts : {parts : List ℕ} {o : ℕ} {v : Values} {ts : Trees} {pieces : List (List ℕ)} → HavePieces d parts o v ts pieces → tree_count ts ≡ length parts → PartsMean d parts o v (joined pieces) ts
+  pub pieces_parts : {parts : List ℕ} {o : ℕ} {v : Values} {ts : Trees} {pieces : List (List ℕ)}
+      → HavePieces d parts o v ts pieces → tree_count ts ≡ length parts → PartsMean d parts o v (joined pieces) ts
   pieces_parts {parts = []} (pieces_end e) all = parts_end (ap joined e)
   pieces_parts {parts = i ∷ parts} (pieces_end e) all = absurd (omega (arith, all))
   pieces_parts (pieces_next b later e h within hs) all = parts_next b (joined later) (ap joined e) h (pieces_parts hs (omega (arith, all)))
@@ -80,7 +85,8 @@ module _ (d : DescV) where
   abbrev LeadOf : List ℕ → ℕ → Values → List (List ℕ) → Trees → Type 0
   LeadOf parts o v pieces ts = LeadMean d parts o v (joined pieces) ts
 
-  all_kept : (b : List ℕ) (later : List (List ℕ)) (k : ℕ) → kept_count later ≡ k → length (b ∷ later) ≤ kept_with b k → 0 < length later → length later ≤ kept_count later
+  all_kept : (b : List ℕ) (later : List (List ℕ)) (k : ℕ) → kept_count later ≡ k → length (b ∷ later) ≤ kept_with b k
+      → 0 < length later → length later ≤ kept_count later
   all_kept [] later zero e all some = absurd (omega (arith, all))
   all_kept [] later (suc k) e all some = omega (arith, e, all)
   all_kept (x ∷ b) later k e all some = omega (arith, e, all)
@@ -90,7 +96,9 @@ module _ (d : DescV) where
   last_some (x ∷ b) all = omega arith
 
   -- some pieces, of which the last has a bit, are those of a truncation
-  pieces_lead : {parts : List ℕ} {o : ℕ} {v : Values} {t : TreeV} {ts : Trees} {pieces : List (List ℕ)} → HavePieces d parts o v (more t ts) pieces → length pieces ≤ kept_count pieces → LeadMean d parts o v (joined pieces) (more t ts)
+  pieces_lead : {parts : List ℕ} {o : ℕ} {v : Values} {t : TreeV} {ts : Trees} {pieces : List (List ℕ)}
+      → HavePieces d parts o v (more t ts) pieces → length pieces ≤ kept_count pieces
+      → LeadMean d parts o v (joined pieces) (more t ts)
   pieces_lead {parts = []} h all = elim h [ ]
   pieces_lead {parts = i ∷ parts} {o = o} {v = v} {t = t} {ts = none} (pieces_next b later e h within (pieces_end f)) all =
       let one : joined (b ∷ []) ≡ b = append-nil b in
@@ -105,14 +113,18 @@ module _ (d : DescV) where
       let rest = all_kept b later (kept_count later) refl (subst Q e all) (omega (arith, count)) in
       lead_next b (joined later) (ap joined e) h (pieces_lead hs rest)
 
-  pub pieces_trunc : {parts : List ℕ} {o : ℕ} {v : Values} {ts : Trees} {pieces : List (List ℕ)} → HavePieces d parts o v ts pieces → length pieces ≤ kept_count pieces → NodeMeans d (Trunc parts) o v (joined pieces) (row ts)
+  pub pieces_trunc : {parts : List ℕ} {o : ℕ} {v : Values} {ts : Trees} {pieces : List (List ℕ)}
+      → HavePieces d parts o v ts pieces → length pieces ≤ kept_count pieces → NodeMeans d (Trunc parts) o v
+      (joined pieces) (row ts)
   pieces_trunc {ts = none} (pieces_end e) all = means_cut (ap joined e)
   pieces_trunc {ts = more t ts} h all = means_trunc (pieces_lead h all)
 
   -- ---- turns
 
   -- turns that have bits are those of a free repetition
-  pub times_many : {n i o : ℕ} {v : Values} {b : List ℕ} {ts : Trees} → ((o : ℕ) (b : List ℕ) (t : TreeV) → NMeans d i o v b t → 0 < length b) → TimesMean d n i o v b ts → ManyMean d i o v b ts
+  pub times_many : {n i o : ℕ} {v : Values} {b : List ℕ} {ts : Trees}
+      → ((o : ℕ) (b : List ℕ) (t : TreeV) → NMeans d i o v b t → 0 < length b)
+      → TimesMean d n i o v b ts → ManyMean d i o v b ts
   times_many some (times_end over e) = many_end e
   times_many some (times_next {o = o} {t = t} m is b1 b2 cut h hs) = many_next b1 b2 cut (some o b1 t h) h (times_many some hs)
 

@@ -1,5 +1,6 @@
 -- Texts of trees, piece by piece.
-use Rattle.std.proofs.Common.{◌≡◌, ℕ, zero, suc, ◌+◌, ◌*◌, ◌/◌, ◌%◌, ◌^◌, ◌<◌, ◌≤◌, List, [], ◌∷◌, ◌++◌, length, append_assoc, append-nil, refl, sym, ◌∙◌, ap, subst, arith, Option, Some, None}
+use Rattle.std.proofs.Common.{◌≡◌, ℕ, zero, suc, ◌+◌, ◌*◌, ◌/◌, ◌%◌, ◌^◌, ◌<◌, ◌≤◌, List, [], ◌∷◌, ◌++◌, length}
+use Rattle.std.proofs.Common.{append_assoc, append-nil, refl, sym, ◌∙◌, ap, subst, arith, Option, Some, None}
 use Rattle.std.proofs.Common.{Bor}
 use Rattle.std.specs.Prelude.{◌≢◌, MatchOption, IfSome}
 use Rattle.std.specs.Fmt.{decimal}
@@ -24,19 +25,22 @@ use Rattle.csn_desc.specs.Formed.{is_counted, IsDescription}
 use Rattle.csn_treetext.proofs.Rows.{row_text-one, row_text-push}
 use Rattle.csn_encode.specs.Following.{BeginsWithRow}
 use Rattle.csn_encode.specs.Writing.{Stands, StandsAtPart, StandsAtParts, Added, Adds, AddsParts}
-use Rattle.csn_encode.proofs.Steps.{PartsDone, TurnsDone, parts_begin, part_stands, parts_more, parts_all, stands_in_window, turns_begin, turns_more, turns_all}
+use Rattle.csn_encode.proofs.Steps.{PartsDone, TurnsDone, parts_begin, part_stands, parts_more, parts_all}
+use Rattle.csn_encode.proofs.Steps.{stands_in_window, turns_begin, turns_more, turns_all}
 
 pub first_digit : (d k : ℕ) (text behind : List ℕ) → text ≡ (48 + d) ∷ behind → d < 10 → k ≡ d → text ≡ decimal k ++ behind
 first_digit d k text behind is small same = is ∙ ap (λ l. l ++ behind) (sym (ap decimal same ∙ decimal_digit d small))
 
 -- a number with one digit more
-pub digit_more : (n d k : ℕ) (text rest behind : List ℕ) → text ≡ decimal n ++ rest → rest ≡ (48 + d) ∷ behind → 0 < n → n < 1844674407370955160 → d < 10 → k ≡ d → text ≡ decimal (10 * n + k) ++ behind
+pub digit_more : (n d k : ℕ) (text rest behind : List ℕ) → text ≡ decimal n ++ rest → rest ≡ (48 + d) ∷ behind → 0 < n
+    → n < 1844674407370955160 → d < 10 → k ≡ d → text ≡ decimal (10 * n + k) ++ behind
 digit_more n d k text rest behind is next some few small same =
     let whole = 10 * n + k in
     let front : whole / 10 ≡ n = omega (arith, small, same) in
     let last : 48 + whole % 10 ≡ 48 + d = omega (arith, small, same) in
     is ∙ ap (λ l. decimal n ++ l) next ∙ sym (append_assoc (decimal n) ((48 + d) ∷ []) behind)
-    ∙ ap (λ l. l ++ behind) (sym (decimal_step whole (omega (arith, some)) (omega (arith, few, small, same)) ∙ ap (λ m. decimal m ++ (48 + whole % 10) ∷ []) front ∙ ap (λ c. decimal n ++ c ∷ []) last))
+    ∙ ap (λ l. l ++ behind) (sym (decimal_step whole (omega (arith, some)) (omega (arith, few, small, same))
+    ∙ ap (λ m. decimal m ++ (48 + whole % 10) ∷ []) front ∙ ap (λ c. decimal n ++ c ∷ []) last))
 
 -- ---- what a call answered
 
@@ -44,7 +48,8 @@ pub on_some : {A : Type 0} {P Q : A → Type 0} (r : Option A) → ((x : A) → 
 on_some None by h = tt
 on_some (Some x) by h = by x h
 
-pub stripped : (s p : List ℕ) (r : Option (Bor (List ℕ))) → MatchOption r ((rest : List ℕ) → s ≢ p ++ rest) (λ x. s ≡ p ++ x.now) → IfSome r (λ x. s ≡ p ++ x.now)
+pub stripped : (s p : List ℕ) (r : Option (Bor (List ℕ)))
+    → MatchOption r ((rest : List ℕ) → s ≢ p ++ rest) (λ x. s ≡ p ++ x.now) → IfSome r (λ x. s ≡ p ++ x.now)
 stripped s p None m = tt
 stripped s p (Some x) m = m
 
@@ -61,12 +66,21 @@ short_begins wanted value width text behind value_text rest some few small same 
     ∙ sym (append_assoc (decimal wanted) (39 ∷ decimal value) rest)
     ∙ ap (λ l. l ++ rest) (sym (number_text Second wanted value some (omega (arith, few)) least))
 
-pub short_added : (wanted value : ℕ) {old new : Draft} → length old.bits + wanted ≤ most_bits → new.bits ≡ old.bits ++ low_bits wanted value → new.path ≡ old.path → new.numbers.items ≡ old.numbers.items
+pub short_added : (wanted value : ℕ) {old new : Draft} → length old.bits + wanted ≤ most_bits
+    → new.bits ≡ old.bits ++ low_bits wanted value → new.path ≡ old.path → new.numbers.items ≡ old.numbers.items
     → Added (λ b. (b ≡ low_bits wanted value) × IsBits b) old new
 short_added wanted value {old = old} room is path numbers =
     let long = ap length is ∙ length-append old.bits (low_bits wanted value) in
     let size = length-low_bits wanted value in
-    record { added = low_bits wanted value; meant = (refl, IsBits-low_bits wanted value); bits = is; within = omega (arith, long, size, room); path = path; numbers = numbers }
+    record {
+      added = low_bits wanted value;
+      meant = (refl, IsBits-low_bits wanted value);
+      bits = is;
+      within =
+          omega (arith, long, size, room);
+      path = path;
+      numbers = numbers;
+    }
 
 -- nothing is behind a whole text
 pub whole_text : (text front rest : List ℕ) → text ≡ front ++ rest → length rest ≡ 0 → text ≡ front
@@ -75,19 +89,24 @@ whole_text text front (x ∷ rest) is none = absurd (omega (arith, none))
 
 -- ---- the texts of nodes with parts
 
-pub row_begins : (ts : List TreeV) (text inner rest : List ℕ) → text ≡ 91 ∷ inner → inner ≡ row_text Second (trees_of ts) ++ 93 ∷ rest → text ≡ text_of Second (row (trees_of ts)) ++ rest
+pub row_begins : (ts : List TreeV) (text inner rest : List ℕ)
+    → text ≡ 91 ∷ inner → inner ≡ row_text Second (trees_of ts) ++ 93 ∷ rest
+    → text ≡ text_of Second (row (trees_of ts)) ++ rest
 row_begins ts text inner rest is within = is ∙ ap (λ l. 91 ∷ l) (within ∙ sym (append_assoc (row_text Second (trees_of ts)) (93 ∷ []) rest))
 
-pub alternative_begins : (j : ℕ) (t : TreeV) (text inner rest : List ℕ) → text ≡ 35 ∷ (decimal j ++ 58 ∷ inner) → inner ≡ text_of Second t ++ rest → text ≡ text_of Second (alt j t) ++ rest
+pub alternative_begins : (j : ℕ) (t : TreeV) (text inner rest : List ℕ) → text ≡ 35 ∷ (decimal j ++ 58 ∷ inner)
+    → inner ≡ text_of Second t ++ rest → text ≡ text_of Second (alt j t) ++ rest
 alternative_begins j t text inner rest is within =
     is ∙ ap (λ l. 35 ∷ (decimal j ++ 58 ∷ l)) within ∙ ap (λ l. 35 ∷ l) (sym (append_assoc (decimal j) (58 ∷ text_of Second t) rest))
 
-pub label_begins : (label : List ℕ) (t : TreeV) (text inner rest : List ℕ) → text ≡ 60 ∷ (label ++ 62 ∷ 61 ∷ inner) → inner ≡ text_of Second t ++ rest → text ≡ text_of Second (named label t) ++ rest
+pub label_begins : (label : List ℕ) (t : TreeV) (text inner rest : List ℕ) → text ≡ 60 ∷ (label ++ 62 ∷ 61 ∷ inner)
+    → inner ≡ text_of Second t ++ rest → text ≡ text_of Second (named label t) ++ rest
 label_begins label t text inner rest is within =
     is ∙ ap (λ l. 60 ∷ (label ++ 62 ∷ 61 ∷ l)) within ∙ ap (λ l. 60 ∷ l) (sym (append_assoc label (62 ∷ 61 ∷ text_of Second t) rest))
 
 -- a row with one tree more
-pub row_more : (front : List TreeV) (count : ℕ) (t : TreeV) (text rest next behind : List ℕ) → length front ≡ count → text ≡ row_text Second (trees_of front) ++ rest
+pub row_more : (front : List TreeV) (count : ℕ) (t : TreeV) (text rest next behind : List ℕ)
+    → length front ≡ count → text ≡ row_text Second (trees_of front) ++ rest
     → (count ≡ 0 → rest ≡ next) → (0 < count → rest ≡ 32 ∷ next) → next ≡ text_of Second t ++ behind
     → text ≡ row_text Second (trees_of (front ++ t ∷ [])) ++ behind
 row_more [] count t text rest next behind long is first later within = is ∙ first (sym long) ∙ within ∙ ap (λ l. l ++ behind) (sym (row_text-one Second t))
@@ -115,22 +134,31 @@ module _ (d : DescV) where
   pub parts_along : (parts : List ℕ) (round : ℕ) (old : Draft) (text : List ℕ) → PartsAlong parts round old text 0 0 text old
   parts_along parts round old text = record { front = []; long = refl; begins = refl; done = λ us v s. parts_begin d parts us round s }
 
-  pub part_next : {parts : List ℕ} {round : ℕ} {old new : Draft} {text rest : List ℕ} {count kept part : ℕ} → PartsAlong parts round old text count kept rest new → slice_get parts count ≡ Some part
-      → (v : Values) → StandsAtParts d true parts round v old → (now : Values) × Stands d part (round + 1) now new × IsDescription d × StandsAtPart d part round now new
+  pub part_next : {parts : List ℕ} {round : ℕ} {old new : Draft} {text rest : List ℕ} {count kept part : ℕ}
+      → PartsAlong parts round old text count kept rest new → slice_get parts count ≡ Some part
+      → (v : Values) → StandsAtParts d true parts round v old → (now : Values) × Stands d part (round + 1) now new
+      × IsDescription d × StandsAtPart d part round now new
   part_next {parts = parts} {round = round} along here v s =
       let done = along.done [] v s in
       let stands = part_stands d parts (along.front ++ []) round done here in
       (done.now, stands_in_window d stands, done.ready.description, stands)
 
-  pub part_more : {parts : List ℕ} {round : ℕ} {old new written after : Draft} {text rest next behind : List ℕ} {count kept kept2 part : ℕ} (t : TreeV) (from : ℕ) → from ≡ length new.bits
+  pub part_more : {parts : List ℕ} {round : ℕ} {old new written after : Draft} {text rest next behind : List ℕ}
+      {count kept kept2 part : ℕ} (t : TreeV) (from : ℕ) → from ≡ length new.bits
       → PartsAlong parts round old text count kept rest new → slice_get parts count ≡ Some part
       → (count ≡ 0 → rest ≡ next) → (0 < count → rest ≡ 32 ∷ next) → next ≡ text_of Second t ++ behind
       → ((v : Values) → Stands d part (round + 1) v new → Adds d part v t new written)
       → after.bits ≡ written.bits → after.path ≡ written.path
-      → after.numbers.items ≡ (if is_counted d.nodes part then written.numbers.items ++ record { field = part; value = number_of (drop from written.bits) } ∷ [] else written.numbers.items)
+      → after.numbers.items ≡ (if is_counted d.nodes part then written.numbers.items ++ record {
+        field = part;
+        value =
+            number_of (drop from written.bits);
+      } ∷ [] else written.numbers.items)
       → ((length new.bits < length after.bits) × (kept2 ≡ count + 1)) ⊎ ((length after.bits ≤ length new.bits) × (kept2 ≡ kept))
       → PartsAlong parts round old text (count + 1) kept2 behind after
-  part_more {parts = parts} {round = round} {old = old} {after = after} {text = text} {rest = rest} {next = next} {behind = behind} {count = count} {kept2 = kept2} t from begins along here first later within adds same path numbers which =
+  part_more {parts = parts} {round = round} {old = old} {after = after} {text = text} {rest = rest} {next = next}
+      {behind = behind} {count = count} {kept2 = kept2} t from begins along here first later within adds same path
+      numbers which =
       let front = along.front in
       record {
         front = front ++ t ∷ [];
@@ -144,7 +172,8 @@ module _ (d : DescV) where
             (adds done.now (stands_in_window d (part_stands d parts (front ++ t ∷ us) round done here))) same path numbers which);
       }
 
-  pub parts_end : {parts : List ℕ} {round : ℕ} {old new after : Draft} {text inner rest : List ℕ} {count kept : ℕ} → PartsAlong parts round old text count kept inner new → inner ≡ 93 ∷ rest
+  pub parts_end : {parts : List ℕ} {round : ℕ} {old new after : Draft} {text inner rest : List ℕ} {count kept : ℕ}
+      → PartsAlong parts round old text count kept inner new → inner ≡ 93 ∷ rest
       → after.bits ≡ new.bits → after.path ≡ new.path → after.numbers.items ≡ take (length old.numbers.items) new.numbers.items
       → BeginsWithRow text (λ ts. (v : Values) → StandsAtParts d true parts round v old → AddsParts d parts v (trees_of ts) old after kept) count rest
   parts_end {parts = parts} {round = round} {old = old} {new = new} {count = count} {kept = kept} along closed same path numbers = (
@@ -166,14 +195,18 @@ module _ (d : DescV) where
   pub turns_along : (part round : ℕ) (old : Draft) (text : List ℕ) → TurnsAlong part round old text 0 text old
   turns_along part round old text = record { front = []; long = refl; begins = refl; done = λ us v s. turns_begin d part us round s }
 
-  pub turn_next : {part round : ℕ} {old new : Draft} {text rest : List ℕ} {count : ℕ} → TurnsAlong part round old text count rest new → (v : Values) → StandsAtPart d part round v old → Stands d part (round + 1) v new
+  pub turn_next : {part round : ℕ} {old new : Draft} {text rest : List ℕ} {count : ℕ}
+      → TurnsAlong part round old text count rest new → (v : Values) → StandsAtPart d part round v old
+      → Stands d part (round + 1) v new
   turn_next along v s = let done = along.done [] v s in stands_in_window d done.stands
 
-  pub turn_more : {part round : ℕ} {old new written : Draft} {text rest next behind : List ℕ} {count : ℕ} (t : TreeV) → TurnsAlong part round old text count rest new
+  pub turn_more : {part round : ℕ} {old new written : Draft} {text rest next behind : List ℕ} {count : ℕ} (t : TreeV)
+      → TurnsAlong part round old text count rest new
       → (count ≡ 0 → rest ≡ next) → (0 < count → rest ≡ 32 ∷ next) → next ≡ text_of Second t ++ behind
       → ((v : Values) → Stands d part (round + 1) v new → Adds d part v t new written)
       → TurnsAlong part round old text (count + 1) behind written
-  turn_more {part = part} {round = round} {old = old} {written = written} {text = text} {rest = rest} {next = next} {behind = behind} {count = count} t along first later within adds =
+  turn_more {part = part} {round = round} {old = old} {written = written} {text = text} {rest = rest} {next = next}
+      {behind = behind} {count = count} t along first later within adds =
       let front = along.front in
       record {
         front = front ++ t ∷ [];
@@ -186,8 +219,10 @@ module _ (d : DescV) where
             (turns_more d part (front ++ t ∷ us) round done (at_front front us t count along.long) (adds v (stands_in_window d done.stands)));
       }
 
-  pub turns_end : {part round : ℕ} {old new : Draft} {text inner rest : List ℕ} {count : ℕ} → TurnsAlong part round old text count inner new → inner ≡ 93 ∷ rest
-      → BeginsWithRow text (λ ts. (v : Values) → StandsAtPart d part round v old → Added (λ b. TimesMean d (length ts) part (length old.bits) v b (trees_of ts)) old new) count rest
+  pub turns_end : {part round : ℕ} {old new : Draft} {text inner rest : List ℕ} {count : ℕ}
+      → TurnsAlong part round old text count inner new → inner ≡ 93 ∷ rest
+      → BeginsWithRow text (λ ts. (v : Values) → StandsAtPart d part round v old → Added
+      (λ b. TimesMean d (length ts) part (length old.bits) v b (trees_of ts)) old new) count rest
   turns_end {part = part} {round = round} {old = old} {new = new} {count = count} along closed = (
     along.front,
     along.long,

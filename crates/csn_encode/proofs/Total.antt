@@ -1,5 +1,6 @@
 -- Every tree whose leaves are bits has bits at a node, or misses it.
-use Rattle.std.proofs.Common.{◌≡◌, ℕ, zero, suc, ◌+◌, ◌*◌, ◌<◌, ◌≤◌, ◌⊎◌, inl, inr, true, false, List, [], ◌∷◌, ◌++◌, length, length-append, refl, sym, ◌∙◌, ap, subst, arith, Some, slice_get}
+use Rattle.std.proofs.Common.{◌≡◌, ℕ, zero, suc, ◌+◌, ◌*◌, ◌<◌, ◌≤◌, ◌⊎◌, inl, inr, true, false, List, [], ◌∷◌, ◌++◌}
+use Rattle.std.proofs.Common.{length, length-append, refl, sym, ◌∙◌, ap, subst, arith, Some, slice_get}
 use Rattle.std.specs.Prelude.{replicate}
 use Rattle.std.proofs.lemmas.Bool.{cases_lt}
 use Rattle.csn_bits.specs.Octets.{IsBits, most_bits}
@@ -15,8 +16,11 @@ use Rattle.csn_desc.specs.TreeParts.{HasTreeParts, AllHaveTreeParts}
 use Rattle.csn_desc.specs.Nodes.{DescV}
 use Rattle.csn_desc.specs.Spelled.{spelled, IsSpare}
 use Rattle.csn_desc.specs.Values.{Values, count_of, with_value}
-use Rattle.csn_desc.specs.Means.{NMeans, NodeMeans, means_at, means_lits, means_spare, means_pad, means_null, means_field, means_rest, means_seq, means_choice, means_times, means_many, means_window, means_named, TimesMean, times_end, times_next}
-use Rattle.csn_desc.specs.Formed.{counts_on, node_counts_on, with_seen, IsCount, Formed, PartsFormed, formed, formed_end, formed_next, FitWidths, IsDescription}
+use Rattle.csn_desc.specs.Means.{NMeans, NodeMeans, means_at, means_lits, means_spare, means_pad, means_null}
+use Rattle.csn_desc.specs.Means.{means_field, means_rest, means_seq, means_choice, means_times, means_many}
+use Rattle.csn_desc.specs.Means.{means_window, means_named, TimesMean, times_end, times_next}
+use Rattle.csn_desc.specs.Formed.{counts_on, node_counts_on, with_seen, IsCount, Formed, PartsFormed, formed}
+use Rattle.csn_desc.specs.Formed.{formed_end, formed_next, FitWidths, IsDescription}
 use Rattle.csn_desc.proofs.ValuesKept.{fits_kept}
 use Rattle.csn_desc.proofs.BitFacts.{length-spelled}
 use Rattle.csn_certify.specs.Conflicts.{Certified}
@@ -24,8 +28,16 @@ use Rattle.csn_certify.specs.Laws.{FreeTurnsHaveBits}
 use Rattle.csn_certify.specs.CountedValues.{fields_of}
 use Rattle.csn_certify.proofs.CountedValues.{has_number, fields_behind}
 use Rattle.csn_encode.specs.declared.misfit.MisfitWhy.{MisfitWhy}
-use Rattle.csn_encode.specs.declared.misfit.MisfitWhy.TheVariants.{WrongKind, WrongLabel, WrongCount, WrongWidth, WrongSpare, NoSuchAlternative, WindowLength, TooManyBits}
-use Rattle.csn_encode.specs.Misfits.{tree_count, kept_count, HavePieces, pieces_end, pieces_next, MissesNode, wrong_kind, wrong_label, wrong_seq, wrong_times, wrong_trunc, idle_trunc, wrong_field, wide_spare, no_pad, wrong_spare, wrong_pad, no_alternative, wrong_window, past_lits, past_field, past_rest, past_spare, past_pad, Misses, misses_at, MissesIn, misses_here, misses_named, misses_choice, misses_window, misses_seq, misses_trunc, misses_times, misses_many, MissesParts, parts_here, parts_later, MissesRepeats, repeats_here, repeats_later}
+use Rattle.csn_encode.specs.declared.misfit.MisfitWhy.TheVariants.{WrongKind, WrongLabel, WrongCount, WrongWidth}
+use Rattle.csn_encode.specs.declared.misfit.MisfitWhy.TheVariants.{WrongSpare, NoSuchAlternative, WindowLength}
+use Rattle.csn_encode.specs.declared.misfit.MisfitWhy.TheVariants.{TooManyBits}
+use Rattle.csn_encode.specs.Misfits.{tree_count, kept_count, HavePieces, pieces_end, pieces_next, MissesNode}
+use Rattle.csn_encode.specs.Misfits.{wrong_kind, wrong_label, wrong_seq, wrong_times, wrong_trunc, idle_trunc}
+use Rattle.csn_encode.specs.Misfits.{wrong_field, wide_spare, no_pad, wrong_spare, wrong_pad, no_alternative}
+use Rattle.csn_encode.specs.Misfits.{wrong_window, past_lits, past_field, past_rest, past_spare, past_pad, Misses}
+use Rattle.csn_encode.specs.Misfits.{misses_at, MissesIn, misses_here, misses_named, misses_choice, misses_window}
+use Rattle.csn_encode.specs.Misfits.{misses_seq, misses_trunc, misses_times, misses_many, MissesParts, parts_here}
+use Rattle.csn_encode.specs.Misfits.{parts_later, MissesRepeats, repeats_here, repeats_later}
 use Rattle.csn_encode.specs.Writing.{joined}
 use Rattle.csn_encode.proofs.Counting.{number_there}
 use Rattle.csn_encode.proofs.Rows.{pieces_parts, pieces_trunc, times_many}
@@ -35,7 +47,8 @@ pub data Settled (means : List ℕ → Type 0) (misses : List ℕ → MisfitWhy 
   fits : (b : List ℕ) → means b → o + length b ≤ most_bits → Settled means misses o
   fails : (path : List ℕ) (why : MisfitWhy) → misses path why → Settled means misses o
 
-settled_as : {P Q : List ℕ → Type 0} {X Y : List ℕ → MisfitWhy → Type 0} {o : ℕ} → ((b : List ℕ) → P b → Q b) → ((path : List ℕ) (why : MisfitWhy) → X path why → Y path why) → Settled P X o → Settled Q Y o
+settled_as : {P Q : List ℕ → Type 0} {X Y : List ℕ → MisfitWhy → Type 0} {o : ℕ} → ((b : List ℕ) → P b → Q b)
+    → ((path : List ℕ) (why : MisfitWhy) → X path why → Y path why) → Settled P X o → Settled Q Y o
 settled_as fit miss (fits b m within) = fits b (fit b m) within
 settled_as fit miss (fails path why m) = fails path why (miss path why m)
 
@@ -156,7 +169,8 @@ module _ (d : DescV) where
   rest_settled o v (alt j t) leaves = here WrongKind (wrong_kind refl refl)
   rest_settled o v (named l t) leaves = here WrongKind (wrong_kind refl refl)
 
-  field_settled : (unit : ℕ) (count : Count) (n o : ℕ) (v : Values) (t : TreeV) → count_of v count ≡ Some n → HasTreeParts t → SettledIn (Field unit count) o v t
+  field_settled : (unit : ℕ) (count : Count) (n o : ℕ) (v : Values) (t : TreeV)
+      → count_of v count ≡ Some n → HasTreeParts t → SettledIn (Field unit count) o v t
   field_settled unit count n o v (bits b) counted leaves = elim (same_or (length b) (unit * n)) [
     | inr wide ↦ here (WrongWidth (unit * n) (length b)) (wrong_field n counted wide refl)
     | inl all ↦ elim (cases_lt most_bits (o + length b)) [
@@ -171,24 +185,33 @@ module _ (d : DescV) where
 
   -- ---- nodes of parts, by what comes of the parts
 
-  seq_settled : (parts : List ℕ) (o : ℕ) (v : Values) (t : TreeV) → HasTreeParts t → ((ts : Trees) → AllHaveTreeParts ts → tree_count ts ≤ length parts → SettledParts parts 0 o v ts) → SettledIn (Seq parts) o v t
+  seq_settled : (parts : List ℕ) (o : ℕ) (v : Values) (t : TreeV)
+      → HasTreeParts t
+      → ((ts : Trees) → AllHaveTreeParts ts → tree_count ts ≤ length parts → SettledParts parts 0 o v ts)
+      → SettledIn (Seq parts) o v t
   seq_settled parts o v (row ts) leaves each = elim (same_or (tree_count ts) (length parts)) [
     | inr other ↦ here (WrongCount (length parts) (tree_count ts)) (wrong_seq other refl)
-    | inl all ↦ settled_as (λ b m. let P : List ℕ → Type 0 = λ c. NodeMeans d (Seq parts) o v c (row ts) in subst P (sym m.1) (means_seq (pieces_parts d m.2 all))) (λ path why m. misses_seq all m) (each ts leaves (omega (arith, all)))
+    | inl all ↦ settled_as (λ b m. let P : List ℕ → Type 0 = λ c. NodeMeans d (Seq parts) o v c (row ts) in
+        subst P (sym m.1) (means_seq (pieces_parts d m.2 all))) (λ path why m. misses_seq all m)
+        (each ts leaves (omega (arith, all)))
   ]
   seq_settled parts o v empty leaves each = here WrongKind (wrong_kind refl refl)
   seq_settled parts o v (bits b) leaves each = here WrongKind (wrong_kind refl refl)
   seq_settled parts o v (alt j t) leaves each = here WrongKind (wrong_kind refl refl)
   seq_settled parts o v (named l t) leaves each = here WrongKind (wrong_kind refl refl)
 
-  cut_settled : (parts : List ℕ) (o : ℕ) (v : Values) (ts : Trees) → tree_count ts ≤ length parts → SettledParts parts 0 o v ts → SettledIn (Trunc parts) o v (row ts)
+  cut_settled : (parts : List ℕ) (o : ℕ) (v : Values) (ts : Trees) → tree_count ts ≤ length parts
+      → SettledParts parts 0 o v ts → SettledIn (Trunc parts) o v (row ts)
   cut_settled parts o v ts few (fails path why m) = fails path why (misses_trunc few m)
   cut_settled parts o v ts few (fits b m within) = elim (cases_lt (kept_count m.0) (length m.0)) [
     | inl idle ↦ here (WrongCount (kept_count m.0) (length m.0)) (idle_trunc m.0 m.2 idle refl)
     | inr all ↦ let P : List ℕ → Type 0 = λ c. NodeMeans d (Trunc parts) o v c (row ts) in fits b (subst P (sym m.1) (pieces_trunc d m.2 all)) within
   ]
 
-  trunc_settled : (parts : List ℕ) (o : ℕ) (v : Values) (t : TreeV) → HasTreeParts t → ((ts : Trees) → AllHaveTreeParts ts → tree_count ts ≤ length parts → SettledParts parts 0 o v ts) → SettledIn (Trunc parts) o v t
+  trunc_settled : (parts : List ℕ) (o : ℕ) (v : Values) (t : TreeV)
+      → HasTreeParts t
+      → ((ts : Trees) → AllHaveTreeParts ts → tree_count ts ≤ length parts → SettledParts parts 0 o v ts)
+      → SettledIn (Trunc parts) o v t
   trunc_settled parts o v (row ts) leaves each = elim (cases_lt (length parts) (tree_count ts)) [
     | inl over ↦ here (WrongCount (length parts) (tree_count ts)) (wrong_trunc over refl)
     | inr few ↦ cut_settled parts o v ts few (each ts leaves few)
@@ -198,11 +221,14 @@ module _ (d : DescV) where
   trunc_settled parts o v (alt j t) leaves each = here WrongKind (wrong_kind refl refl)
   trunc_settled parts o v (named l t) leaves each = here WrongKind (wrong_kind refl refl)
 
-  alternative_settled : (parts : List ℕ) (j i o : ℕ) (v : Values) (t : TreeV) → slice_get parts j ≡ Some i → SettledAt i o v t → SettledIn (Choice parts) o v (alt j t)
+  alternative_settled : (parts : List ℕ) (j i o : ℕ) (v : Values) (t : TreeV)
+      → slice_get parts j ≡ Some i → SettledAt i o v t → SettledIn (Choice parts) o v (alt j t)
   alternative_settled parts j i o v t there (fits b m within) = fits b (means_choice there m) within
   alternative_settled parts j i o v t there (fails path why m) = fails (0 ∷ path) why (misses_choice path refl there m)
 
-  choice_settled : (parts : List ℕ) (o : ℕ) (v : Values) (t : TreeV) → HasTreeParts t → ((j i : ℕ) (u : TreeV) → HasTreeParts u → slice_get parts j ≡ Some i → SettledAt i o v u) → SettledIn (Choice parts) o v t
+  choice_settled : (parts : List ℕ) (o : ℕ) (v : Values) (t : TreeV)
+      → HasTreeParts t → ((j i : ℕ) (u : TreeV) → HasTreeParts u → slice_get parts j ≡ Some i → SettledAt i o v u)
+      → SettledIn (Choice parts) o v t
   choice_settled parts o v (alt j t) leaves each = elim (at_or parts j) [
     | inl few ↦ here NoSuchAlternative (no_alternative few refl)
     | inr there ↦ alternative_settled parts j there.0 o v t there.1 (each j there.0 t leaves there.1)
@@ -216,7 +242,8 @@ module _ (d : DescV) where
   labelled_settled label part o v t (fits b m within) = fits b (means_named m) within
   labelled_settled label part o v t (fails path why m) = fails (0 ∷ path) why (misses_named path refl refl m)
 
-  named_settled : (label : List ℕ) (part o : ℕ) (v : Values) (t : TreeV) → HasTreeParts t → ((u : TreeV) → HasTreeParts u → SettledAt part o v u) → SettledIn (Named label part) o v t
+  named_settled : (label : List ℕ) (part o : ℕ) (v : Values) (t : TreeV)
+      → HasTreeParts t → ((u : TreeV) → HasTreeParts u → SettledAt part o v u) → SettledIn (Named label part) o v t
   named_settled label part o v (named l t) leaves each = elim (same_lists l label) [
     | inr other ↦ here WrongLabel (wrong_label other refl)
     | inl same ↦
@@ -228,7 +255,8 @@ module _ (d : DescV) where
   named_settled label part o v (row ts) leaves each = here WrongKind (wrong_kind refl refl)
   named_settled label part o v (alt j t) leaves each = here WrongKind (wrong_kind refl refl)
 
-  window_settled : (unit : ℕ) (count : Count) (n part o : ℕ) (v : Values) (t : TreeV) → count_of v count ≡ Some n → SettledAt part o v t → SettledIn (Window unit count part) o v t
+  window_settled : (unit : ℕ) (count : Count) (n part o : ℕ) (v : Values) (t : TreeV)
+      → count_of v count ≡ Some n → SettledAt part o v t → SettledIn (Window unit count part) o v t
   window_settled unit count n part o v t counted (fails path why m) = fails path why (misses_window m)
   window_settled unit count n part o v t counted (fits b m within) = elim (same_or (length b) (unit * n)) [
     | inr other ↦ here (WindowLength (unit * n) (length b)) (wrong_window n b counted m within other refl)
@@ -237,28 +265,37 @@ module _ (d : DescV) where
 
   -- ---- turns
 
-  turn_settled : (i at o : ℕ) (v : Values) (t : TreeV) (ts : Trees) (b : List ℕ) → NMeans d i o v b t → o + length b ≤ most_bits → SettledTurns i (suc at) (o + length b) v ts → SettledTurns i at o v (more t ts)
-  turn_settled i at o v t ts b m within (fits c ms room) = fits (b ++ c) (times_next (tree_count ts) refl b c refl m ms) (omega (arith, room, length-append b c))
+  turn_settled : (i at o : ℕ) (v : Values) (t : TreeV) (ts : Trees) (b : List ℕ)
+      → NMeans d i o v b t → o + length b ≤ most_bits → SettledTurns i (suc at) (o + length b) v ts
+      → SettledTurns i at o v (more t ts)
+  turn_settled i at o v t ts b m within (fits c ms room) =
+      fits (b ++ c) (times_next (tree_count ts) refl b c refl m ms) (omega (arith, room, length-append b c))
   turn_settled i at o v t ts b m within (fails path why ms) = fails path why (repeats_later b m within ms)
 
-  turns_settled : (i at o : ℕ) (v : Values) (ts : Trees) → o ≤ most_bits → AllHaveTreeParts ts → ((o : ℕ) (t : TreeV) → o ≤ most_bits → HasTreeParts t → SettledAt i o v t) → SettledTurns i at o v ts
+  turns_settled : (i at o : ℕ) (v : Values) (ts : Trees) → o ≤ most_bits → AllHaveTreeParts ts
+      → ((o : ℕ) (t : TreeV) → o ≤ most_bits → HasTreeParts t → SettledAt i o v t) → SettledTurns i at o v ts
   turns_settled i at o v none within leaves each = fits [] (times_end refl refl) (omega (arith, within))
   turns_settled i at o v (more t ts) within leaves each = elim (each o t within leaves.0) [
     | fails path why m ↦ fails (at ∷ path) why (repeats_here path refl m)
     | fits b m room ↦ turn_settled i at o v t ts b m room (turns_settled i (suc at) (o + length b) v ts room leaves.1 each)
   ]
 
-  times_settled : (count : Count) (n part o : ℕ) (v : Values) (t : TreeV) → count_of v count ≡ Some n → HasTreeParts t → ((ts : Trees) → AllHaveTreeParts ts → SettledTurns part 0 o v ts) → SettledIn (Times count part) o v t
+  times_settled : (count : Count) (n part o : ℕ) (v : Values) (t : TreeV) → count_of v count ≡ Some n → HasTreeParts t
+      → ((ts : Trees) → AllHaveTreeParts ts → SettledTurns part 0 o v ts) → SettledIn (Times count part) o v t
   times_settled count n part o v (row ts) counted leaves each = elim (same_or (tree_count ts) n) [
     | inr other ↦ here (WrongCount n (tree_count ts)) (wrong_times n counted other refl)
-    | inl all ↦ settled_as (λ b m. let P : ℕ → Type 0 = λ k. TimesMean d k part o v b ts in means_times n counted (subst P all m)) (λ path why m. misses_times n counted all m) (each ts leaves)
+    | inl all ↦ settled_as (λ b m. let P : ℕ → Type 0 = λ k. TimesMean d k part o v b ts in
+        means_times n counted (subst P all m)) (λ path why m. misses_times n counted all m) (each ts leaves)
   ]
   times_settled count n part o v empty counted leaves each = here WrongKind (wrong_kind refl refl)
   times_settled count n part o v (bits b) counted leaves each = here WrongKind (wrong_kind refl refl)
   times_settled count n part o v (alt j t) counted leaves each = here WrongKind (wrong_kind refl refl)
   times_settled count n part o v (named l t) counted leaves each = here WrongKind (wrong_kind refl refl)
 
-  many_settled : (part o : ℕ) (v : Values) (t : TreeV) → ((o : ℕ) (b : List ℕ) (t : TreeV) → NMeans d part o v b t → 0 < length b) → HasTreeParts t → ((ts : Trees) → AllHaveTreeParts ts → SettledTurns part 0 o v ts) → SettledIn (Many part) o v t
+  many_settled : (part o : ℕ) (v : Values) (t : TreeV)
+      → ((o : ℕ) (b : List ℕ) (t : TreeV) → NMeans d part o v b t → 0 < length b)
+      → HasTreeParts t → ((ts : Trees) → AllHaveTreeParts ts → SettledTurns part 0 o v ts)
+      → SettledIn (Many part) o v t
   many_settled part o v (row ts) some leaves each = settled_as (λ b m. means_many (times_many d some m)) (λ path why m. misses_many m) (each ts leaves)
   many_settled part o v empty some leaves each = here WrongKind (wrong_kind refl refl)
   many_settled part o v (bits b) some leaves each = here WrongKind (wrong_kind refl refl)
@@ -274,21 +311,25 @@ module _ (d : DescV) where
   part_settled i parts at o v t ts b m within (fails path why ms) = fails path why (parts_later b m within ms)
 
   first_settled : (i : ℕ) (parts : List ℕ) (at o : ℕ) (v : Values) (t : TreeV) (ts : Trees) → SettledAt i o v t
-      → ((b : List ℕ) → NMeans d i o v b t → o + length b ≤ most_bits → SettledParts parts (suc at) (o + length b) (with_value d.nodes i b v) ts) → SettledParts (i ∷ parts) at o v (more t ts)
+      → ((b : List ℕ) → NMeans d i o v b t → o + length b ≤ most_bits → SettledParts parts (suc at) (o + length b)
+      (with_value d.nodes i b v) ts) → SettledParts (i ∷ parts) at o v (more t ts)
   first_settled i parts at o v t ts (fails path why m) behind = fails (at ∷ path) why (parts_here path refl m)
   first_settled i parts at o v t ts (fits b m within) behind = part_settled i parts at o v t ts b m within (behind b m within)
 
   -- ---- every node
 
   module _ (is : IsDescription d) (certified : Certified d 12) (free : FreeTurnsHaveBits) where
-    counted : {v : Values} (i : ℕ) (n : Node) (count : Count) (seen : List ℕ) → seen ≡ fields_of v → FitWidths d v → slice_get d.nodes i ≡ Some n → IsCount d.nodes seen count
+    counted : {v : Values} (i : ℕ) (n : Node) (count : Count) (seen : List ℕ) → seen ≡ fields_of v → FitWidths d v
+        → slice_get d.nodes i ≡ Some n → IsCount d.nodes seen count
         → ((field : ℕ) → counts_on field count ≡ true → node_counts_on field n ≡ true) → (k : ℕ) × (count_of v count ≡ Some k)
     counted {v = v} i n count seen same widths at head on =
         let P : List ℕ → Type 0 = λ l. IsCount d.nodes l count in
         number_there d v count (has_number d i n count widths at (subst P same head) on)
 
     mutual
-      pub settled : {seen : List ℕ} {round i : ℕ} → Formed d.nodes seen round i → (v : Values) → seen ≡ fields_of v → FitWidths d v → (o : ℕ) → o ≤ most_bits → (t : TreeV) → HasTreeParts t → SettledAt i o v t
+      pub settled : {seen : List ℕ} {round i : ℕ} → Formed d.nodes seen round i → (v : Values)
+          → seen ≡ fields_of v → FitWidths d v → (o : ℕ) → o ≤ most_bits → (t : TreeV)
+          → HasTreeParts t → SettledAt i o v t
       settled (formed (Lits run) at few head have room parts) v same widths o within t leaves = settled_at (Lits run) at (lits_settled run o v t)
       settled (formed (Spare s) at few head have room parts) v same widths o within t leaves = settled_at (Spare s) at (spare_settled s o v t leaves)
       settled (formed Pad at few head have room parts) v same widths o within t leaves = settled_at Pad at (pad_settled o v t leaves)
@@ -305,27 +346,38 @@ module _ (d : DescV) where
           settled_at (Choice ps) at (choice_settled ps o v t leaves (λ j i u all there. alternatives_settled parts v same widths o within j i there u all))
       settled {seen = seen} {i = i} (formed (Times count p) at few head have room (formed_next first others)) v same widths o within t leaves =
           let n = counted {v = v} i (Times count p) count seen same widths at head (λ field on. on) in
-          settled_at (Times count p) at (times_settled count n.0 p o v t n.1 leaves (λ ts all. turns_settled p 0 o v ts within all (λ o u within leaf. settled first v same widths o within u leaf)))
+          settled_at (Times count p) at (times_settled count n.0 p o v t n.1 leaves
+          (λ ts all. turns_settled p 0 o v ts within all
+          (λ o u within leaf. settled first v same widths o within u leaf)))
       settled {i = i} (formed (Many p) at few head have room (formed_next first others)) v same widths o within t leaves =
-          settled_at (Many p) at (many_settled p o v t (λ o b u m. free d 12 i p o v b u is certified at m) leaves (λ ts all. turns_settled p 0 o v ts within all (λ o u within leaf. settled first v same widths o within u leaf)))
+          settled_at (Many p) at (many_settled p o v t (λ o b u m. free d 12 i p o v b u is certified at m) leaves
+          (λ ts all. turns_settled p 0 o v ts within all
+          (λ o u within leaf. settled first v same widths o within u leaf)))
       settled {seen = seen} {i = i} (formed (Window unit count p) at few head have room (formed_next first others)) v same widths o within t leaves =
           let n = counted {v = v} i (Window unit count p) count seen same widths at head.1 (λ field on. on) in
           settled_at (Window unit count p) at (window_settled unit count n.0 p o v t n.1 (settled first v same widths o within t leaves))
       settled (formed (Named label p) at few head have room (formed_next first others)) v same widths o within t leaves =
           settled_at (Named label p) at (named_settled label p o v t leaves (λ u leaf. settled first v same widths o within u leaf))
 
-      parts_settled : {seen : List ℕ} {round : ℕ} {parts : List ℕ} → PartsFormed d.nodes true seen round parts → (v : Values) → seen ≡ fields_of v → FitWidths d v → (at o : ℕ) → o ≤ most_bits → (ts : Trees) → AllHaveTreeParts ts → tree_count ts ≤ length parts
+      parts_settled : {seen : List ℕ} {round : ℕ} {parts : List ℕ} → PartsFormed d.nodes true seen round parts
+          → (v : Values) → seen ≡ fields_of v → FitWidths d v → (at o : ℕ) → o ≤ most_bits → (ts : Trees)
+          → AllHaveTreeParts ts → tree_count ts ≤ length parts
           → SettledParts parts at o v ts
       parts_settled h v same widths at o within none leaves count = fits [] ([], refl, pieces_end refl) (omega (arith, within))
       parts_settled formed_end v same widths at o within (more t ts) leaves count = absurd (omega (arith, count))
       parts_settled (formed_next {i = i} {parts = parts} first others) v same widths at o within (more t ts) leaves count =
           first_settled i parts at o v t ts (settled first v same widths o within t leaves.0)
-          (λ b m room. parts_settled others (with_value d.nodes i b v) (ap (λ l. with_seen d.nodes true i l) same ∙ sym (fields_behind d i b v)) (fits_kept d widths m) (suc at) (o + length b) room ts leaves.1 (omega (arith, count)))
+          (λ b m room. parts_settled others (with_value d.nodes i b v)
+          (ap (λ l. with_seen d.nodes true i l) same ∙ sym (fields_behind d i b v)) (fits_kept d widths m)
+          (suc at) (o + length b) room ts leaves.1 (omega (arith, count)))
 
-      alternatives_settled : {seen : List ℕ} {round : ℕ} {parts : List ℕ} → PartsFormed d.nodes false seen round parts → (v : Values) → seen ≡ fields_of v → FitWidths d v → (o : ℕ) → o ≤ most_bits → (j i : ℕ) → slice_get parts j ≡ Some i → (t : TreeV) → HasTreeParts t → SettledAt i o v t
+      alternatives_settled : {seen : List ℕ} {round : ℕ} {parts : List ℕ} → PartsFormed d.nodes false seen round parts
+          → (v : Values) → seen ≡ fields_of v → FitWidths d v → (o : ℕ) → o ≤ most_bits → (j i : ℕ)
+          → slice_get parts j ≡ Some i → (t : TreeV) → HasTreeParts t → SettledAt i o v t
       alternatives_settled formed_end v same widths o within j i there t leaves = absurd (cc)
       alternatives_settled (formed_next {i = p} first others) v same widths o within zero i there t leaves =
           let one : p ≡ i = cc in
           let P : ℕ → Type 0 = λ k. SettledAt k o v t in
           subst P one (settled first v same widths o within t leaves)
-      alternatives_settled (formed_next first others) v same widths o within (suc j) i there t leaves = alternatives_settled others v same widths o within j i there t leaves
+      alternatives_settled (formed_next first others) v same widths o within (suc j) i there t leaves =
+          alternatives_settled others v same widths o within j i there t leaves

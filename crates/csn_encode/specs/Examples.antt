@@ -9,7 +9,8 @@ use Rattle.csn_desc.specs.TreeV.{TreeV, empty, bits, row, named, none, more}
 use Rattle.csn_desc.specs.Nodes.{DescV}
 use Rattle.csn_desc.specs.Means.{means_at, means_field, means_named, means_seq, means_many, means_spare, many_next, many_end, parts_next, parts_end}
 use Rattle.csn_encode.specs.declared.misfit.MisfitWhy.TheVariants.{WrongCount, WrongWidth, WindowLength}
-use Rattle.csn_encode.specs.Misfits.{IsMisfit, misses_at, misses_here, misses_named, misses_seq, wrong_field, wrong_window, idle_trunc, pieces_next, pieces_end}
+use Rattle.csn_encode.specs.Misfits.{IsMisfit, misses_at, misses_here, misses_named, misses_seq, wrong_field}
+use Rattle.csn_encode.specs.Misfits.{wrong_window, idle_trunc, pieces_next, pieces_end}
 use Rattle.csn_encode.specs.Misfits as miss
 
 -- <A : bit (3)> 0 <B : bit (4)>

@@ -15,7 +15,9 @@ use Rattle.csn_desc.specs.Spelled.{IsSpare}
 use Rattle.csn_desc.specs.Values.{Values, count_of, with_value}
 use Rattle.csn_desc.specs.Means.{NMeans}
 use Rattle.csn_encode.specs.declared.misfit.MisfitWhy.{MisfitWhy}
-use Rattle.csn_encode.specs.declared.misfit.MisfitWhy.TheVariants.{WrongKind, WrongLabel, WrongCount, WrongWidth, WrongSpare, NoSuchAlternative, WindowLength, TooManyBits}
+use Rattle.csn_encode.specs.declared.misfit.MisfitWhy.TheVariants.{WrongKind, WrongLabel, WrongCount, WrongWidth}
+use Rattle.csn_encode.specs.declared.misfit.MisfitWhy.TheVariants.{WrongSpare, NoSuchAlternative, WindowLength}
+use Rattle.csn_encode.specs.declared.misfit.MisfitWhy.TheVariants.{TooManyBits}
 
 -- is the tree of the kind that bits of the node have? A window's tree is that of its part.
 abbrev pub has_kind : Node → TreeV → Bool

@@ -46,7 +46,9 @@ impl Draft {
         steps: &mut Steps<L>,
     ) -> Option<&'a [u8]>
         requires { (v : Values) × Stands ground.plan.now i round v self.old }
-        ensures { IfSome result (λ rest. BeginsWith text.now (λ t. (v : Values) → Stands ground.entry.plan.now i round v self.old → Adds ground.entry.plan.now i v t self.old self.new) rest.now) }
+        ensures { IfSome result
+            (λ rest. BeginsWith text.now (λ t. (v : Values) → Stands ground.entry.plan.now i round v self.old
+            → Adds ground.entry.plan.now i v t self.old self.new) rest.now) }
     {
         let plan = ground.plan;
         match plan.node(i, steps) {
@@ -88,7 +90,9 @@ impl Draft {
         steps: &mut Steps<L>,
     ) -> Option<&'a [u8]>
         requires { (v : Values) × StandsAtParts ground.plan.now true parts.now round v self.old }
-        ensures { IfSome result (λ rest. BeginsWith text.now (λ t. (v : Values) → StandsAtParts ground.entry.plan.now true parts.now round v self.old → AddsNode ground.entry.plan.now (node.Seq parts.now) v t self.old self.new) rest.now) }
+        ensures { IfSome result
+            (λ rest. BeginsWith text.now (λ t. (v : Values) → StandsAtParts ground.entry.plan.now true parts.now round
+            v self.old → AddsNode ground.entry.plan.now (node.Seq parts.now) v t self.old self.new) rest.now) }
     {
         let row = self.parts_text(ground, parts, round, behind(text, b'[')?, steps)?;
         if row.count != u32::from(parts.len()) {
@@ -108,7 +112,9 @@ impl Draft {
         steps: &mut Steps<L>,
     ) -> Option<&'a [u8]>
         requires { (v : Values) × StandsAtParts ground.plan.now true parts.now round v self.old }
-        ensures { IfSome result (λ rest. BeginsWith text.now (λ t. (v : Values) → StandsAtParts ground.entry.plan.now true parts.now round v self.old → AddsNode ground.entry.plan.now (node.Trunc parts.now) v t self.old self.new) rest.now) }
+        ensures { IfSome result
+            (λ rest. BeginsWith text.now (λ t. (v : Values) → StandsAtParts ground.entry.plan.now true parts.now round
+            v self.old → AddsNode ground.entry.plan.now (node.Trunc parts.now) v t self.old self.new) rest.now) }
     {
         let row = self.parts_text(ground, parts, round, behind(text, b'[')?, steps)?;
         if row.kept < row.count {
@@ -128,7 +134,10 @@ impl Draft {
         steps: &mut Steps<L>,
     ) -> Option<&'a [u8]>
         requires { (v : Values) × StandsAtParts ground.plan.now false parts.now round v self.old }
-        ensures { IfSome result (λ rest. BeginsWith text.now (λ t. (v : Values) → StandsAtParts ground.entry.plan.now false parts.now round v self.old → AddsNode ground.entry.plan.now (node.Choice parts.now) v t self.old self.new) rest.now) }
+        ensures { IfSome result
+            (λ rest. BeginsWith text.now (λ t. (v : Values)
+            → StandsAtParts ground.entry.plan.now false parts.now round v self.old → AddsNode ground.entry.plan.now
+            (node.Choice parts.now) v t self.old self.new) rest.now) }
     {
         let (number, tail) = alternative(text, parts.len())?;
         self.write_text(ground, parts.get(number), round + 1, tail, steps)
@@ -146,7 +155,9 @@ impl Draft {
         steps: &mut Steps<L>,
     ) -> Option<&'a [u8]>
         requires { (v : Values) × StandsAtPart ground.plan.now part round v self.old }
-        ensures { IfSome result (λ rest. BeginsWith text.now (λ t. (v : Values) (count : CountV) → StandsAtPart ground.entry.plan.now part round v self.old → count_of v count ≡ Some wanted → AddsNode ground.entry.plan.now (node.Times count part) v t self.old self.new) rest.now) }
+        ensures { IfSome result (λ rest. BeginsWith text.now (λ t. (v : Values) (count : CountV)
+            → StandsAtPart ground.entry.plan.now part round v self.old → count_of v count ≡ Some wanted
+            → AddsNode ground.entry.plan.now (node.Times count part) v t self.old self.new) rest.now) }
     {
         let row = self.turns_text(ground, wanted, part, round, behind(text, b'[')?, steps)?;
         if row.count != wanted {
@@ -166,7 +177,10 @@ impl Draft {
         steps: &mut Steps<L>,
     ) -> Option<&'a [u8]>
         requires { (v : Values) × StandsAtPart ground.plan.now part round v self.old }
-        ensures { IfSome result (λ rest. BeginsWith text.now (λ t. (v : Values) (i : ℕ) → slice_get ground.entry.plan.now.nodes i ≡ Some (node.Many part) → StandsAtPart ground.entry.plan.now part round v self.old → AddsNode ground.entry.plan.now (node.Many part) v t self.old self.new) rest.now) }
+        ensures { IfSome result (λ rest. BeginsWith text.now (λ t. (v : Values) (i : ℕ)
+            → slice_get ground.entry.plan.now.nodes i ≡ Some (node.Many part)
+            → StandsAtPart ground.entry.plan.now part round v self.old → AddsNode ground.entry.plan.now
+            (node.Many part) v t self.old self.new) rest.now) }
     {
         csn_certify::laws::turns_have_bits();
         let row = self.turns_text(ground, u32::MAX, part, round, behind(text, b'[')?, steps)?;
@@ -185,7 +199,11 @@ impl Draft {
         steps: &mut Steps<L>,
     ) -> Option<RowEnd<'a>>
         requires { (v : Values) × StandsAtPart ground.plan.now part round v self.old }
-        ensures { IfSome result (λ row. BeginsWithRow text.now (λ ts. (v : Values) → StandsAtPart ground.entry.plan.now part round v self.old → Added (λ b. TimesMean ground.entry.plan.now (length ts) part (length self.old.bits) v b (trees_of ts)) self.old self.new) row.count row.rest.now) }
+        ensures { IfSome result
+            (λ row. BeginsWithRow text.now (λ ts. (v : Values)
+            → StandsAtPart ground.entry.plan.now part round v self.old
+            → Added (λ b. TimesMean ground.entry.plan.now (length ts) part (length self.old.bits) v b (trees_of ts))
+            self.old self.new) row.count row.rest.now) }
     {
         let mut count = 0;
         let mut rest = text;
@@ -212,7 +230,11 @@ impl Draft {
         steps: &mut Steps<L>,
     ) -> Option<RowEnd<'a>>
         requires { (v : Values) × StandsAtParts ground.plan.now true parts.now round v self.old }
-        ensures { IfSome result (λ row. BeginsWithRow text.now (λ ts. (v : Values) → StandsAtParts ground.entry.plan.now true parts.now round v self.old → AddsParts ground.entry.plan.now parts.now v (trees_of ts) self.old self.new row.kept) row.count row.rest.now) }
+        ensures { IfSome result
+            (λ row. BeginsWithRow text.now (λ ts. (v : Values)
+            → StandsAtParts ground.entry.plan.now true parts.now round v self.old
+            → AddsParts ground.entry.plan.now parts.now v (trees_of ts) self.old self.new row.kept)
+            row.count row.rest.now) }
     {
         let seen = self.numbers.len();
         let mut kept = 0;
@@ -245,7 +267,9 @@ impl Draft {
         steps: &mut Steps<L>,
     ) -> Option<&'a [u8]>
         requires { (v : Values) × StandsAtPart ground.plan.now part round v self.old }
-        ensures { IfSome result (λ rest. BeginsWith text.now (λ t. (v : Values) (unit n : ℕ) (count : CountV) → StandsAtPart ground.entry.plan.now part round v self.old → count_of v count ≡ Some n → wanted ≡ unit * n → AddsNode ground.entry.plan.now (node.Window unit count part) v t self.old self.new) rest.now) }
+        ensures { IfSome result (λ rest. BeginsWith text.now (λ t. (v : Values) (unit n : ℕ) (count : CountV)
+            → StandsAtPart ground.entry.plan.now part round v self.old → count_of v count ≡ Some n → wanted ≡ unit * n
+            → AddsNode ground.entry.plan.now (node.Window unit count part) v t self.old self.new) rest.now) }
     {
         let from = self.bits.len();
         let rest = self.write_text(ground, part, round + 1, text, steps)?;
@@ -267,7 +291,9 @@ impl Draft {
         steps: &mut Steps<L>,
     ) -> Option<&'a [u8]>
         requires { (v : Values) × StandsAtPart ground.plan.now part round v self.old }
-        ensures { IfSome result (λ rest. BeginsWith text.now (λ t. (v : Values) → StandsAtPart ground.entry.plan.now part round v self.old → AddsNode ground.entry.plan.now (node.Named label.now part) v t self.old self.new) rest.now) }
+        ensures { IfSome result
+            (λ rest. BeginsWith text.now (λ t. (v : Values) → StandsAtPart ground.entry.plan.now part round v self.old
+            → AddsNode ground.entry.plan.now (node.Named label.now part) v t self.old self.new) rest.now) }
     {
         let tail = behind_label(text, label.bytes())?;
         self.write_text(ground, part, round + 1, tail, steps)

@@ -1,6 +1,7 @@
 //! The bits that are written of a tree.
 
-ghost use Rattle.std.specs.Prelude.{◌≡◌, ℕ, ◌+◌, ◌-◌, ◌*◌, ◌<◌, ◌≤◌, [], ◌∷◌, ◌++◌, Bool, true, length, take, drop, if◌then◌else◌, OnOk, IfErr, Some, IsTrue, IsOk};
+ghost use Rattle.std.specs.Prelude.{◌≡◌, ℕ, ◌+◌, ◌-◌, ◌*◌, ◌<◌, ◌≤◌, [], ◌∷◌, ◌++◌, Bool, true, length, take, drop};
+ghost use Rattle.std.specs.Prelude.{if◌then◌else◌, OnOk, IfErr, Some, IsTrue, IsOk};
 ghost use Rattle.csn_bits.specs.Octets.{most_bits, IsBits, bits_of_octets};
 ghost use Rattle.csn_encode.specs.declared.draft.TheConstants.{RUN_OCTETS};
 ghost use Rattle.csn_bits.specs.Numbers.{number_of};

@@ -23,7 +23,8 @@ impl Draft {
     /// Writes the tree of a literal.
     pub fn literal(&mut self, run: &Run, tree: &Tree) -> Result<(), Stop>
         ensures added { OnOk result ((d : DescV) (v : Values) → AddsNode d (node.Lits run.now) v tree.now self.old self.new) }
-        ensures missed { IfErr result (λ stop. IfMisfit stop (λ why. (d : DescV) (v : Values) → MissesNodeBy d (node.Lits run.now) v tree.now self.old self.new why)) }
+        ensures missed { IfErr result (λ stop. IfMisfit stop (λ why. (d : DescV) (v : Values)
+            → MissesNodeBy d (node.Lits run.now) v tree.now self.old self.new why)) }
     {
         let Shape::Empty = &tree.shape else {
             return Err(WRONG_KIND);
@@ -34,7 +35,8 @@ impl Draft {
     /// Writes the tree of a spare bit.
     pub fn spare(&mut self, symbol: Symbol, reading: Reading, tree: &Tree) -> Result<(), Stop>
         ensures added { OnOk result ((d : DescV) (v : Values) → d.reading ≡ reading → AddsNode d (node.Spare symbol) v tree.now self.old self.new) }
-        ensures missed { IfErr result (λ stop. IfMisfit stop (λ why. (d : DescV) (v : Values) → d.reading ≡ reading → MissesNodeBy d (node.Spare symbol) v tree.now self.old self.new why)) }
+        ensures missed { IfErr result (λ stop. IfMisfit stop (λ why. (d : DescV) (v : Values)
+            → d.reading ≡ reading → MissesNodeBy d (node.Spare symbol) v tree.now self.old self.new why)) }
     {
         let Shape::Bits(bits) = &tree.shape else {
             return Err(WRONG_KIND);
@@ -49,7 +51,8 @@ impl Draft {
     /// Writes the tree of spare padding.
     pub fn padding(&mut self, reading: Reading, tree: &Tree) -> Result<(), Stop>
         ensures added { OnOk result ((d : DescV) (v : Values) → d.reading ≡ reading → AddsNode d node.Pad v tree.now self.old self.new) }
-        ensures missed { IfErr result (λ stop. IfMisfit stop (λ why. (d : DescV) (v : Values) → d.reading ≡ reading → MissesNodeBy d node.Pad v tree.now self.old self.new why)) }
+        ensures missed { IfErr result (λ stop. IfMisfit stop (λ why. (d : DescV) (v : Values)
+            → d.reading ≡ reading → MissesNodeBy d node.Pad v tree.now self.old self.new why)) }
     {
         let Shape::Bits(bits) = &tree.shape else {
             return Err(WRONG_KIND);
@@ -77,8 +80,13 @@ impl Draft {
 
     /// Writes the tree of a field that has so many bits.
     pub fn field(&mut self, wanted: u32, tree: &Tree) -> Result<(), Stop>
-        ensures added { OnOk result ((d : DescV) (v : Values) (unit : ℕ) (count : CountV) (n : ℕ) → count_of v count ≡ Some n → wanted ≡ unit * n → AddsNode d (node.Field unit count) v tree.now self.old self.new) }
-        ensures missed { IfErr result (λ stop. IfMisfit stop (λ why. (d : DescV) (v : Values) (unit : ℕ) (count : CountV) (n : ℕ) → count_of v count ≡ Some n → wanted ≡ unit * n → MissesNodeBy d (node.Field unit count) v tree.now self.old self.new why)) }
+        ensures added { OnOk result ((d : DescV) (v : Values) (unit : ℕ) (count : CountV) (n : ℕ)
+            → count_of v count ≡ Some n → wanted ≡ unit * n → AddsNode d (node.Field unit count)
+            v tree.now self.old self.new) }
+        ensures missed { IfErr result
+            (λ stop. IfMisfit stop (λ why. (d : DescV) (v : Values) (unit : ℕ) (count : CountV) (n : ℕ)
+            → count_of v count ≡ Some n → wanted ≡ unit * n → MissesNodeBy d (node.Field unit count)
+            v tree.now self.old self.new why)) }
     {
         let Shape::Bits(bits) = &tree.shape else {
             return Err(WRONG_KIND);

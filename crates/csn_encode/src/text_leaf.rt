@@ -43,7 +43,8 @@ impl Draft {
         reading: Reading,
         text: &'a [u8],
     ) -> Option<&'a [u8]>
-        ensures { IfSome result (λ rest. BeginsWith text.now (λ t. (d : DescV) (v : Values) → d.reading ≡ reading → AddsNode d (node.Spare symbol) v t self.old self.new) rest.now) }
+        ensures { IfSome result (λ rest. BeginsWith text.now (λ t. (d : DescV) (v : Values)
+            → d.reading ≡ reading → AddsNode d (node.Spare symbol) v t self.old self.new) rest.now) }
     {
         let (tree, rest) = leaf(alloc, text)?;
         self.spare(symbol, reading, &tree).ok()?;
@@ -57,7 +58,8 @@ impl Draft {
         reading: Reading,
         text: &'a [u8],
     ) -> Option<&'a [u8]>
-        ensures { IfSome result (λ rest. BeginsWith text.now (λ t. (d : DescV) (v : Values) → d.reading ≡ reading → AddsNode d node.Pad v t self.old self.new) rest.now) }
+        ensures { IfSome result (λ rest. BeginsWith text.now (λ t. (d : DescV) (v : Values)
+            → d.reading ≡ reading → AddsNode d node.Pad v t self.old self.new) rest.now) }
     {
         let (tree, rest) = leaf(alloc, text)?;
         self.padding(reading, &tree).ok()?;
@@ -75,7 +77,10 @@ impl Draft {
 
     /// Writes the tree of a field that has so many bits.
     pub fn field_text<'a>(&mut self, alloc: Global, wanted: u32, text: &'a [u8]) -> Option<&'a [u8]>
-        ensures { IfSome result (λ rest. BeginsWith text.now (λ t. (d : DescV) (v : Values) (unit : ℕ) (count : CountV) (n : ℕ) → count_of v count ≡ Some n → wanted ≡ unit * n → AddsNode d (node.Field unit count) v t self.old self.new) rest.now) }
+        ensures { IfSome result
+            (λ rest. BeginsWith text.now (λ t. (d : DescV) (v : Values) (unit : ℕ) (count : CountV) (n : ℕ)
+            → count_of v count ≡ Some n → wanted ≡ unit * n → AddsNode d (node.Field unit count)
+            v t self.old self.new) rest.now) }
     {
         if wanted == 0 || wanted > MOST_ADDED {
             return self.wide_field_text(alloc, wanted, text);
@@ -101,7 +106,10 @@ impl Draft {
         wanted: u32,
         text: &'a [u8],
     ) -> Option<&'a [u8]>
-        ensures { IfSome result (λ rest. BeginsWith text.now (λ t. (d : DescV) (v : Values) (unit : ℕ) (count : CountV) (n : ℕ) → count_of v count ≡ Some n → wanted ≡ unit * n → AddsNode d (node.Field unit count) v t self.old self.new) rest.now) }
+        ensures { IfSome result
+            (λ rest. BeginsWith text.now (λ t. (d : DescV) (v : Values) (unit : ℕ) (count : CountV) (n : ℕ)
+            → count_of v count ≡ Some n → wanted ≡ unit * n → AddsNode d (node.Field unit count)
+            v t self.old self.new) rest.now) }
     {
         let (tree, rest) = leaf(alloc, text)?;
         self.field(wanted, &tree).ok()?;

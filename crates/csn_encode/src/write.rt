@@ -8,7 +8,8 @@ ghost use Rattle.csn_desc.specs.TreeV.{trees_of};
 ghost use Rattle.csn_desc.specs.Values.{Values, count_of};
 ghost use Rattle.csn_desc.specs.Means.{TimesMean};
 ghost use Rattle.csn_encode.specs.Misfits.{MissesParts, MissesRepeats};
-ghost use Rattle.csn_encode.specs.Writing.{Stands, StandsAtPart, StandsAtParts, Added, Missed, IfMisfit, Adds, MissesBy, AddsNode, MissesNodeBy, MissesBelow, AddsParts};
+ghost use Rattle.csn_encode.specs.Writing.{Stands, StandsAtPart, StandsAtParts, Added, Missed, IfMisfit, Adds};
+ghost use Rattle.csn_encode.specs.Writing.{MissesBy, AddsNode, MissesNodeBy, MissesBelow, AddsParts};
 
 use crate::draft::Draft;
 use crate::fault::Stop;
@@ -31,7 +32,9 @@ impl Draft {
     ) -> Result<(), Stop>
         requires { (v : Values) × Stands plan.now i round v self.old }
         ensures added { OnOk result ((v : Values) → Stands plan.now i round v self.old → Adds plan.now i v tree.now self.old self.new) }
-        ensures missed { IfErr result (λ stop. IfMisfit stop (λ why. (v : Values) → Stands plan.now i round v self.old → MissesBy plan.now i v tree.now self.old self.new why)) }
+        ensures missed { IfErr result
+            (λ stop. IfMisfit stop (λ why. (v : Values) → Stands plan.now i round v self.old
+            → MissesBy plan.now i v tree.now self.old self.new why)) }
     {
         match plan.node(i, steps) {
             Node::Lits(run) => self.literal(run, tree),
@@ -72,7 +75,9 @@ impl Draft {
     ) -> Result<(), Stop>
         requires { (v : Values) × StandsAtPart plan.now part round v self.old }
         ensures added { OnOk result ((v : Values) → StandsAtPart plan.now part round v self.old → Adds plan.now part v tree.now self.old self.new) }
-        ensures missed { IfErr result (λ stop. IfMisfit stop (λ why. (v : Values) → StandsAtPart plan.now part round v self.old → MissesBelow plan.now at part v tree.now self.old self.new why)) }
+        ensures missed { IfErr result
+            (λ stop. IfMisfit stop (λ why. (v : Values) → StandsAtPart plan.now part round v self.old
+            → MissesBelow plan.now at part v tree.now self.old self.new why)) }
     {
         self.path.push(at)?;
         self.write(plan, part, round + 1, tree, steps)?;
@@ -91,8 +96,11 @@ impl Draft {
         steps: &mut Steps<L>,
     ) -> Result<(), Stop>
         requires { (v : Values) × StandsAtParts plan.now true parts.now round v self.old }
-        ensures added { OnOk result ((v : Values) → StandsAtParts plan.now true parts.now round v self.old → AddsNode plan.now (node.Seq parts.now) v tree.now self.old self.new) }
-        ensures missed { IfErr result (λ stop. IfMisfit stop (λ why. (v : Values) → StandsAtParts plan.now true parts.now round v self.old → MissesNodeBy plan.now (node.Seq parts.now) v tree.now self.old self.new why)) }
+        ensures added { OnOk result ((v : Values) → StandsAtParts plan.now true parts.now round v self.old
+            → AddsNode plan.now (node.Seq parts.now) v tree.now self.old self.new) }
+        ensures missed { IfErr result
+            (λ stop. IfMisfit stop (λ why. (v : Values) → StandsAtParts plan.now true parts.now round v self.old
+            → MissesNodeBy plan.now (node.Seq parts.now) v tree.now self.old self.new why)) }
     {
         let Shape::Row(rows) = &tree.shape else {
             return Err(WRONG_KIND);
@@ -117,8 +125,11 @@ impl Draft {
         steps: &mut Steps<L>,
     ) -> Result<(), Stop>
         requires { (v : Values) × StandsAtParts plan.now false parts.now round v self.old }
-        ensures added { OnOk result ((v : Values) → StandsAtParts plan.now false parts.now round v self.old → AddsNode plan.now (node.Choice parts.now) v tree.now self.old self.new) }
-        ensures missed { IfErr result (λ stop. IfMisfit stop (λ why. (v : Values) → StandsAtParts plan.now false parts.now round v self.old → MissesNodeBy plan.now (node.Choice parts.now) v tree.now self.old self.new why)) }
+        ensures added { OnOk result ((v : Values) → StandsAtParts plan.now false parts.now round v self.old
+            → AddsNode plan.now (node.Choice parts.now) v tree.now self.old self.new) }
+        ensures missed { IfErr result
+            (λ stop. IfMisfit stop (λ why. (v : Values) → StandsAtParts plan.now false parts.now round v self.old
+            → MissesNodeBy plan.now (node.Choice parts.now) v tree.now self.old self.new why)) }
     {
         let Shape::Alt(number, tree) = &tree.shape else {
             return Err(WRONG_KIND);
@@ -141,8 +152,11 @@ impl Draft {
         steps: &mut Steps<L>,
     ) -> Result<(), Stop>
         requires { (v : Values) × StandsAtPart plan.now part round v self.old }
-        ensures added { OnOk result ((v : Values) (count : CountV) → StandsAtPart plan.now part round v self.old → count_of v count ≡ Some wanted → AddsNode plan.now (node.Times count part) v tree.now self.old self.new) }
-        ensures missed { IfErr result (λ stop. IfMisfit stop (λ why. (v : Values) (count : CountV) → StandsAtPart plan.now part round v self.old → count_of v count ≡ Some wanted → MissesNodeBy plan.now (node.Times count part) v tree.now self.old self.new why)) }
+        ensures added { OnOk result ((v : Values) (count : CountV) → StandsAtPart plan.now part round v self.old
+            → count_of v count ≡ Some wanted → AddsNode plan.now (node.Times count part) v tree.now self.old self.new) }
+        ensures missed { IfErr result (λ stop. IfMisfit stop (λ why. (v : Values) (count : CountV)
+            → StandsAtPart plan.now part round v self.old → count_of v count ≡ Some wanted
+            → MissesNodeBy plan.now (node.Times count part) v tree.now self.old self.new why)) }
     {
         let Shape::Row(rows) = &tree.shape else {
             return Err(WRONG_KIND);
@@ -165,8 +179,13 @@ impl Draft {
         steps: &mut Steps<L>,
     ) -> Result<(), Stop>
         requires { (v : Values) × StandsAtPart plan.now part round v self.old }
-        ensures added { OnOk result ((v : Values) (i : ℕ) → slice_get plan.now.nodes i ≡ Some (node.Many part) → StandsAtPart plan.now part round v self.old → AddsNode plan.now (node.Many part) v tree.now self.old self.new) }
-        ensures missed { IfErr result (λ stop. IfMisfit stop (λ why. (v : Values) (i : ℕ) → slice_get plan.now.nodes i ≡ Some (node.Many part) → StandsAtPart plan.now part round v self.old → MissesNodeBy plan.now (node.Many part) v tree.now self.old self.new why)) }
+        ensures added { OnOk result ((v : Values) (i : ℕ) → slice_get plan.now.nodes i ≡ Some (node.Many part)
+            → StandsAtPart plan.now part round v self.old → AddsNode plan.now (node.Many part)
+            v tree.now self.old self.new) }
+        ensures missed { IfErr result
+            (λ stop. IfMisfit stop (λ why. (v : Values) (i : ℕ) → slice_get plan.now.nodes i ≡ Some (node.Many part)
+            → StandsAtPart plan.now part round v self.old → MissesNodeBy plan.now (node.Many part)
+            v tree.now self.old self.new why)) }
     {
         csn_certify::laws::turns_have_bits();
         let Shape::Row(rows) = &tree.shape else {
@@ -186,8 +205,13 @@ impl Draft {
         steps: &mut Steps<L>,
     ) -> Result<(), Stop>
         requires { (v : Values) × StandsAtPart plan.now part round v self.old }
-        ensures added { OnOk result ((v : Values) → StandsAtPart plan.now part round v self.old → Added (λ b. TimesMean plan.now (length rows.now) part (length self.old.bits) v b (trees_of rows.now)) self.old self.new) }
-        ensures missed { IfErr result (λ stop. IfMisfit stop (λ why. (v : Values) → StandsAtPart plan.now part round v self.old → Missed (λ path reason. MissesRepeats plan.now part 0 (length self.old.bits) v (trees_of rows.now) path reason) self.old self.new why)) }
+        ensures added { OnOk result ((v : Values) → StandsAtPart plan.now part round v self.old → Added
+            (λ b. TimesMean plan.now (length rows.now) part (length self.old.bits) v b (trees_of rows.now))
+            self.old self.new) }
+        ensures missed { IfErr result
+            (λ stop. IfMisfit stop (λ why. (v : Values) → StandsAtPart plan.now part round v self.old → Missed
+            (λ path reason. MissesRepeats plan.now part 0 (length self.old.bits) v (trees_of rows.now) path reason)
+            self.old self.new why)) }
     {
         for at in 0..rows.len() {
             self.below(plan, part, at, round, rows.get(at), steps)?;
@@ -206,8 +230,11 @@ impl Draft {
         steps: &mut Steps<L>,
     ) -> Result<(), Stop>
         requires { (v : Values) × StandsAtParts plan.now true parts.now round v self.old }
-        ensures added { OnOk result ((v : Values) → StandsAtParts plan.now true parts.now round v self.old → AddsNode plan.now (node.Trunc parts.now) v tree.now self.old self.new) }
-        ensures missed { IfErr result (λ stop. IfMisfit stop (λ why. (v : Values) → StandsAtParts plan.now true parts.now round v self.old → MissesNodeBy plan.now (node.Trunc parts.now) v tree.now self.old self.new why)) }
+        ensures added { OnOk result ((v : Values) → StandsAtParts plan.now true parts.now round v self.old
+            → AddsNode plan.now (node.Trunc parts.now) v tree.now self.old self.new) }
+        ensures missed { IfErr result
+            (λ stop. IfMisfit stop (λ why. (v : Values) → StandsAtParts plan.now true parts.now round v self.old
+            → MissesNodeBy plan.now (node.Trunc parts.now) v tree.now self.old self.new why)) }
     {
         let Shape::Row(rows) = &tree.shape else {
             return Err(WRONG_KIND);
@@ -241,8 +268,12 @@ impl Draft {
         requires few { length rows.now ≤ length parts.now }
         requires nodes { length parts.now ≤ MOST_NODES }
         requires stands { (v : Values) × StandsAtParts plan.now true parts.now round v self.old }
-        ensures added { IfOk result (λ kept. (v : Values) → StandsAtParts plan.now true parts.now round v self.old → AddsParts plan.now parts.now v (trees_of rows.now) self.old self.new kept) }
-        ensures missed { IfErr result (λ stop. IfMisfit stop (λ why. (v : Values) → StandsAtParts plan.now true parts.now round v self.old → Missed (λ path reason. MissesParts plan.now parts.now 0 (length self.old.bits) v (trees_of rows.now) path reason) self.old self.new why)) }
+        ensures added { IfOk result (λ kept. (v : Values) → StandsAtParts plan.now true parts.now round v self.old
+            → AddsParts plan.now parts.now v (trees_of rows.now) self.old self.new kept) }
+        ensures missed { IfErr result
+            (λ stop. IfMisfit stop (λ why. (v : Values) → StandsAtParts plan.now true parts.now round v self.old
+            → Missed (λ path reason. MissesParts plan.now parts.now 0 (length self.old.bits) v (trees_of rows.now)
+            path reason) self.old self.new why)) }
     {
         let seen = self.numbers.len();
         let mut kept = 0;
@@ -271,8 +302,12 @@ impl Draft {
         steps: &mut Steps<L>,
     ) -> Result<(), Stop>
         requires { (v : Values) × StandsAtPart plan.now part round v self.old }
-        ensures added { OnOk result ((v : Values) (unit n : ℕ) (count : CountV) → StandsAtPart plan.now part round v self.old → count_of v count ≡ Some n → wanted ≡ unit * n → AddsNode plan.now (node.Window unit count part) v tree.now self.old self.new) }
-        ensures missed { IfErr result (λ stop. IfMisfit stop (λ why. (v : Values) (unit n : ℕ) (count : CountV) → StandsAtPart plan.now part round v self.old → count_of v count ≡ Some n → wanted ≡ unit * n → MissesNodeBy plan.now (node.Window unit count part) v tree.now self.old self.new why)) }
+        ensures added { OnOk result ((v : Values) (unit n : ℕ) (count : CountV)
+            → StandsAtPart plan.now part round v self.old → count_of v count ≡ Some n → wanted ≡ unit * n
+            → AddsNode plan.now (node.Window unit count part) v tree.now self.old self.new) }
+        ensures missed { IfErr result (λ stop. IfMisfit stop (λ why. (v : Values) (unit n : ℕ) (count : CountV)
+            → StandsAtPart plan.now part round v self.old → count_of v count ≡ Some n → wanted ≡ unit * n
+            → MissesNodeBy plan.now (node.Window unit count part) v tree.now self.old self.new why)) }
     {
         let from = self.bits.len();
         self.write(plan, part, round + 1, tree, steps)?;
@@ -295,8 +330,11 @@ impl Draft {
         steps: &mut Steps<L>,
     ) -> Result<(), Stop>
         requires { (v : Values) × StandsAtPart plan.now part round v self.old }
-        ensures added { OnOk result ((v : Values) → StandsAtPart plan.now part round v self.old → AddsNode plan.now (node.Named label.now part) v tree.now self.old self.new) }
-        ensures missed { IfErr result (λ stop. IfMisfit stop (λ why. (v : Values) → StandsAtPart plan.now part round v self.old → MissesNodeBy plan.now (node.Named label.now part) v tree.now self.old self.new why)) }
+        ensures added { OnOk result ((v : Values) → StandsAtPart plan.now part round v self.old → AddsNode plan.now
+            (node.Named label.now part) v tree.now self.old self.new) }
+        ensures missed { IfErr result
+            (λ stop. IfMisfit stop (λ why. (v : Values) → StandsAtPart plan.now part round v self.old
+            → MissesNodeBy plan.now (node.Named label.now part) v tree.now self.old self.new why)) }
     {
         let Shape::Named(other, tree) = &tree.shape else {
             return Err(WRONG_KIND);

@@ -10,7 +10,9 @@ use Rattle.csn_desc.specs.Nodes.{DescV, parts_of}
 use Rattle.csn_desc.specs.Formed.{value_width}
 use Rattle.csn_look.specs.Ends.{MayCount, may_fixed, may_counted}
 use Rattle.csn_claims.specs.Claims.{Claims}
-use Rattle.csn_claims.specs.Ends.{NodeEnds, PartsEnd, ManyEnd, LeadEnd, ends_lits, ends_spare, ends_null, ends_pad, ends_rest, ends_field, ends_window, ends_seq, ends_choice, ends_times, ends_counted, ends_many, ends_trunc, ends_named}
+use Rattle.csn_claims.specs.Ends.{NodeEnds, PartsEnd, ManyEnd, LeadEnd, ends_lits, ends_spare, ends_null, ends_pad}
+use Rattle.csn_claims.specs.Ends.{ends_rest, ends_field, ends_window, ends_seq, ends_choice, ends_times, ends_counted}
+use Rattle.csn_claims.specs.Ends.{ends_many, ends_trunc, ends_named}
 use Rattle.csn_good.specs.Octets.{has_octet, OctetsAre, OfSome, SomeEnds, TurnsEnd, NodeWithin, PartsWithin}
 
 pub along : {n m : Node} (P : Node → Type 0) → n ≡ m → P m → P n
@@ -36,7 +38,8 @@ node_within Rest within = tt
 pub told : (s : List Bool) {P Q : ℕ → Type 0} → OctetsAre s P → ((p : ℕ) → P p → Q p) → ((p : ℕ) → p ≤ 7 → Q p → P p) → OctetsAre s Q
 told s are to back p low = ((λ there. to p ((are p low).0 there)), (λ h. (are p low).1 (back p low h)))
 
-pub at_only : (s here : List Bool) (octet : ℕ) (P : ℕ → ℕ → Type 0) → octet ≤ 7 → OctetsAre here (λ o. o ≡ octet) → OctetsAre s (λ p. OfSome here (λ o. P o p)) → OctetsAre s (P octet)
+pub at_only : (s here : List Bool) (octet : ℕ) (P : ℕ → ℕ → Type 0) → octet ≤ 7 → OctetsAre here (λ o. o ≡ octet)
+    → OctetsAre s (λ p. OfSome here (λ o. P o p)) → OctetsAre s (P octet)
 at_only s here octet P low only are =
     told s are
     (λ p h. subst (λ o. P o p) ((only h.octet h.small).0 h.there) h.fact)
@@ -84,7 +87,8 @@ module _ (d : DescV) (claims : Claims) where
   end_named (ends_named h) = h
 
   module _ (octet : ℕ) (low : octet ≤ 7) (s : List Bool) where
-    pub lits_end : (run : List Symbol) (end : ℕ) → end ≡ (octet + 1 * length run) % 8 → OctetsAre s (λ o. o ≡ end) → OctetsAre s (NodeEnds d claims (Lits run) octet)
+    pub lits_end : (run : List Symbol) (end : ℕ) → end ≡ (octet + 1 * length run) % 8 → OctetsAre s (λ o. o ≡ end)
+        → OctetsAre s (NodeEnds d claims (Lits run) octet)
     lits_end run end is are =
         let same : end ≡ (octet + length run) % 8 = omega arith in
         told s are (λ p h. ends_lits (h ∙ same)) (λ p small h. end_lits h ∙ sym same)
@@ -119,22 +123,28 @@ module _ (d : DescV) (claims : Claims) where
       pub trunc_end : (parts : List ℕ) → OctetsAre s (λ p. OfSome here (λ o. LeadEnd claims parts o p)) → OctetsAre s (NodeEnds d claims (Trunc parts) octet)
       trunc_end parts are = told s (at_only s here octet (λ o p. LeadEnd claims parts o p) low only are) (λ p h. ends_trunc h) (λ p small h. end_trunc h)
 
-      pub choice_end : (parts : List ℕ) → OctetsAre s (λ p. OfSome here (λ o. SomeEnds claims parts o p)) → OctetsAre s (NodeEnds d claims (Choice parts) octet)
-      choice_end parts are = told s (at_only s here octet (λ o p. SomeEnds claims parts o p) low only are) (λ p h. ends_choice h.place h.at h.ends) (λ p small h. end_choice h)
+      pub choice_end : (parts : List ℕ) → OctetsAre s (λ p. OfSome here (λ o. SomeEnds claims parts o p))
+          → OctetsAre s (NodeEnds d claims (Choice parts) octet)
+      choice_end parts are = told s (at_only s here octet (λ o p. SomeEnds claims parts o p) low only are)
+          (λ p h. ends_choice h.place h.at h.ends) (λ p small h. end_choice h)
 
-      pub times_end : (count : Count) (i : ℕ) → OctetsAre s (λ p. OfSome here (λ o. TurnsEnd claims count i o p)) → OctetsAre s (NodeEnds d claims (Times count i) octet)
-      times_end count i are = told s (at_only s here octet (λ o p. TurnsEnd claims count i o p) low only are) (λ p h. times_end_of count h) (λ p small h. end_times count h)
+      pub times_end : (count : Count) (i : ℕ) → OctetsAre s (λ p. OfSome here (λ o. TurnsEnd claims count i o p))
+          → OctetsAre s (NodeEnds d claims (Times count i) octet)
+      times_end count i are = told s (at_only s here octet (λ o p. TurnsEnd claims count i o p) low only are)
+          (λ p h. times_end_of count h) (λ p small h. end_times count h)
 
       pub many_end : (i : ℕ) → OctetsAre s (λ p. OfSome here (λ o. ManyEnd claims i o p)) → OctetsAre s (NodeEnds d claims (Many i) octet)
       many_end i are = told s (at_only s here octet (λ o p. ManyEnd claims i o p) low only are) (λ p h. ends_many h) (λ p small h. end_many h)
 
-      pub named_end : (label : List ℕ) (i : ℕ) → OctetsAre s (λ p. OfSome here (λ o. IsTrue (claims.ends i o p))) → OctetsAre s (NodeEnds d claims (Named label i) octet)
+      pub named_end : (label : List ℕ) (i : ℕ) → OctetsAre s (λ p. OfSome here (λ o. IsTrue (claims.ends i o p)))
+          → OctetsAre s (NodeEnds d claims (Named label i) octet)
       named_end label i are = told s (at_only s here octet (λ o p. IsTrue (claims.ends i o p)) low only are) (λ p h. ends_named h) (λ p small h. end_named h)
 
 module _ (d : DescV) where
   -- ---- counts
 
-  pub fixed_units : (s : List Bool) (octet unit n end : ℕ) → end ≡ (octet + unit * n) % 8 → OctetsAre s (λ o. o ≡ end) → OctetsAre s (λ p. (k : ℕ) × MayCount d (Fixed n) k × (p ≡ (octet + unit * k) % 8))
+  pub fixed_units : (s : List Bool) (octet unit n end : ℕ) → end ≡ (octet + unit * n) % 8 → OctetsAre s (λ o. o ≡ end)
+      → OctetsAre s (λ p. (k : ℕ) × MayCount d (Fixed n) k × (p ≡ (octet + unit * k) % 8))
   fixed_units s octet unit n end is are =
       told s are (λ p h. (n, may_fixed refl, h ∙ is)) (λ p small h. of_fixed h.1 h.2)
     where
@@ -149,13 +159,17 @@ module _ (d : DescV) where
       let parts : value ≡ 8 * (value / 8) + value % 8 = omega arith in
       sym (ap (λ v. (octet + unit * (m * v + c)) % 8) parts ∙ residue octet unit m c (value / 8) (value % 8))
 
-  pub counted_units : (s : List Bool) (octet unit m field c width values : ℕ) → value_width d.nodes field ≡ Some width → values ≤ 2 ^ width → ((value : ℕ) → value < 2 ^ width → value % 8 < values) → OctetsAre s (λ p. (value : ℕ) × (value < values) × (p ≡ (octet + unit * (m * value + c)) % 8)) → OctetsAre s (λ p. (k : ℕ) × MayCount d (Counted m field c) k × (p ≡ (octet + unit * k) % 8))
+  pub counted_units : (s : List Bool) (octet unit m field c width values : ℕ) → value_width d.nodes field ≡ Some width
+      → values ≤ 2 ^ width → ((value : ℕ) → value < 2 ^ width → value % 8 < values)
+      → OctetsAre s (λ p. (value : ℕ) × (value < values) × (p ≡ (octet + unit * (m * value + c)) % 8))
+      → OctetsAre s (λ p. (k : ℕ) × MayCount d (Counted m field c) k × (p ≡ (octet + unit * k) % 8))
   counted_units s octet unit m field c width values wide few all are =
       told s are
       (λ p h. let less = h.1 in (m * h.0 + c, may_counted width h.0 wide (omega (arith, less, few)) refl, h.2))
       (λ p small h. of_counted h.1 h.2)
     where
-      of_counted : {k p : ℕ} → MayCount d (Counted m field c) k → p ≡ (octet + unit * k) % 8 → (value : ℕ) × (value < values) × (p ≡ (octet + unit * (m * value + c)) % 8)
+      of_counted : {k p : ℕ} → MayCount d (Counted m field c) k → p ≡ (octet + unit * k) % 8 → (value : ℕ)
+          × (value < values) × (p ≡ (octet + unit * (m * value + c)) % 8)
       of_counted (may_counted w value is less sum) e =
           let same : w ≡ width = cc in
           let fits = subst (λ w. value < 2 ^ w) same less in

@@ -1,5 +1,6 @@
 -- What the tests of the private functions come to for the rule of conflicts.
-use Rattle.std.proofs.Common.{◌≡◌, ℕ, zero, suc, ◌<◌, ◌≤◌, Bool, true, false, List, [], ◌∷◌, inl, inr, refl, sym, ap, subst, arith, Option, Some, None, slice_get, length}
+use Rattle.std.proofs.Common.{◌≡◌, ℕ, zero, suc, ◌<◌, ◌≤◌, Bool, true, false, List, [], ◌∷◌, inl, inr, refl, sym, ap}
+use Rattle.std.proofs.Common.{subst, arith, Option, Some, None, slice_get, length}
 use Rattle.std.specs.Prelude.{◌≢◌, ◌⊎◌, IsTrue, Contains, is_some, ◌↔◌, slice_index_or, nat_le, not}
 use Rattle.std.proofs.lemmas.Bool.Decides.{nat_tests}
 use Rattle.std.proofs.lemmas.Option.{slice_get_within, get_or_from_slice_get}
@@ -11,7 +12,8 @@ use Rattle.csn_cert.specs.declared.pattern.Mark.{Mark}
 use Rattle.csn_cert.specs.PatternV.{PatternV}
 use Rattle.csn_cert.specs.CertificateV.{NodeV, PositionV, IsCertificate}
 use Rattle.csn_cert.specs.Growing.{claimed}
-use Rattle.csn_claims.specs.Conflicts.{IsBegunBy, IsLast, IsNull, IsNotFirm, HasConflict, two_empty, choice_not_firm, many_not_firm, times_not_firm, overlap, empty_clash, loop_clash, not_last}
+use Rattle.csn_claims.specs.Conflicts.{IsBegunBy, IsLast, IsNull, IsNotFirm, HasConflict, two_empty, choice_not_firm}
+use Rattle.csn_claims.specs.Conflicts.{many_not_firm, times_not_firm, overlap, empty_clash, loop_clash, not_last}
 use Rattle.csn_good.specs.ClaimedSets.{mark_bits, followed_by, denotes, patterns_of, patterns_at, claims_of}
 use Rattle.csn_good.specs.Good.{KeepsApart}
 use Rattle.csn_good.specs.Apart.{IsFirmNode, Overlaps, Clashes, TurnsClash, BitBehind, EachApart}
@@ -87,9 +89,12 @@ lesser (suc j) zero differ = inr (omega arith)
 lesser (suc j) (suc k) differ = elim (lesser j k (λ same. differ (ap suc same))) [ inl less ↦ inl (omega arith) | inr less ↦ inr (omega arith) ]
 
 -- a pattern claims its own words
-claims_word : (c : List NodeV) (i o place : ℕ) (p : PatternV) (word : List ℕ) → slice_get (patterns_at c i o) place ≡ Some p → mark_bits p.marks word ≡ true → IsTrue ((claims_of c).keys i o word p.whole)
+claims_word : (c : List NodeV) (i o place : ℕ) (p : PatternV) (word : List ℕ)
+    → slice_get (patterns_at c i o) place ≡ Some p → mark_bits p.marks word ≡ true
+    → IsTrue ((claims_of c).keys i o word p.whole)
 claims_word c i o place p word at stands =
-    any_true (λ q. denotes q word p.whole) (patterns_at c i o) p (at_contained (patterns_at c i o) place p at) (said p word p.whole (record { same = refl; bits = stands }))
+    any_true (λ q. denotes q word p.whole) (patterns_at c i o) p (at_contained (patterns_at c i o) place p at)
+    (said p word p.whole (record { same = refl; bits = stands }))
 
 module _ (d : DescV) (c : List NodeV) (is : IsCertificate c) where
   -- ---- firm nodes
@@ -99,11 +104,19 @@ module _ (d : DescV) (c : List NodeV) (is : IsCertificate c) where
   firm_is i firm (inr key) =
       let f = found (λ p. denotes p [] key.1) (patterns_at c i key.0) key.2 in
       let low = reached_small c is i key.0 (pattern_reached c i key.0 f.item f.there) in
-      firm.no_empty key.0 low (record { place = f.there.0; pattern = f.item; at = contained_at (patterns_at c i key.0) f.item f.there; empty = no_marks f.item key.1 f.passes })
+      firm.no_empty key.0 low (record {
+        place = f.there.0;
+        pattern = f.item;
+        at = contained_at (patterns_at c i key.0)
+            f.item f.there;
+        empty = no_marks f.item key.1 f.passes;
+      })
 
   -- ---- words of two parts
 
-  overlap_is : (i p q o : ℕ) (left right : List ℕ) (left_mark right_mark : Bool) → IsTrue ((claims_of c).reached i o) → IsTrue ((claims_of c).keys p o left left_mark) → IsTrue ((claims_of c).keys q o right right_mark) → IsBegunBy left right ⊎ IsBegunBy right left → Overlaps c i p q
+  overlap_is : (i p q o : ℕ) (left right : List ℕ) (left_mark right_mark : Bool) → IsTrue ((claims_of c).reached i o)
+      → IsTrue ((claims_of c).keys p o left left_mark) → IsTrue ((claims_of c).keys q o right right_mark)
+      → IsBegunBy left right ⊎ IsBegunBy right left → Overlaps c i p q
   overlap_is i p q o left right left_mark right_mark reached of_p of_q begun =
       let x = found (λ p. denotes p left left_mark) (patterns_at c p o) of_p in
       let y = found (λ p. denotes p right right_mark) (patterns_at c q o) of_q in
@@ -124,7 +137,8 @@ module _ (d : DescV) (c : List NodeV) (is : IsCertificate c) where
         };
       }
 
-  clash_is : (i part o bit : ℕ) → IsTrue ((claims_of c).reached i o) → IsTrue ((claims_of c).starts part o bit) → IsTrue ((claims_of c).follow i o (Some bit)) → Clashes c i part
+  clash_is : (i part o bit : ℕ) → IsTrue ((claims_of c).reached i o) → IsTrue ((claims_of c).starts part o bit)
+      → IsTrue ((claims_of c).follow i o (Some bit)) → Clashes c i part
   clash_is i part o bit reached starts follow =
       record {
         octet = o;
@@ -133,7 +147,8 @@ module _ (d : DescV) (c : List NodeV) (is : IsCertificate c) where
         clash = record { bit = bit; one = starts_small c part o bit starts; starts = starts; follows = follow };
       }
 
-  behind_is : (i from o bit : ℕ) → IsTrue ((claims_of c).reached i from) → IsTrue ((claims_of c).ends i from o) → IsTrue ((claims_of c).follow i o (Some bit)) → BitBehind c i
+  behind_is : (i from o bit : ℕ) → IsTrue ((claims_of c).reached i from) → IsTrue ((claims_of c).ends i from o)
+      → IsTrue ((claims_of c).follow i o (Some bit)) → BitBehind c i
   behind_is i from o bit reached ends follow =
       record {
         from = from;
@@ -170,7 +185,8 @@ module _ (d : DescV) (c : List NodeV) (is : IsCertificate c) where
       ]
   choice_kept i parts each (not_last from o bit last reached ends follow) = elim last [ ]
 
-  overlap_back : (i p q j k : ℕ) (parts : List ℕ) → j < k → slice_get parts j ≡ Some p → slice_get parts k ≡ Some q → ¬ IsNull d p → ¬ IsNull d q → Overlaps c i p q → HasConflict d (claims_of c) i (Choice parts)
+  overlap_back : (i p q j k : ℕ) (parts : List ℕ) → j < k → slice_get parts j ≡ Some p → slice_get parts k ≡ Some q
+      → ¬ IsNull d p → ¬ IsNull d q → Overlaps c i p q → HasConflict d (claims_of c) i (Choice parts)
   overlap_back i p q j k parts less at_j at_k some_p some_q over =
       let left = over.meet in
       let right = over.meet.meets in
@@ -186,8 +202,12 @@ module _ (d : DescV) (c : List NodeV) (is : IsCertificate c) where
         firm = λ not_null. firm_back part (λ not_firm. keeps (choice_not_firm place at not_null not_firm));
         later = λ k other less at_k. record {
           one_null = λ left right. keeps (two_empty place k less at at_k left right);
-          right_of_null = λ null clash. keeps (empty_clash clash.octet clash.clash.bit place k clash.begins at null at_k (λ same. absurd (omega arith)) clash.clash.starts clash.clash.follows);
-          left_of_null = λ null clash. keeps (empty_clash clash.octet clash.clash.bit k place clash.begins at_k null at (λ same. absurd (omega arith)) clash.clash.starts clash.clash.follows);
+          right_of_null =
+              λ null clash. keeps (empty_clash clash.octet clash.clash.bit place k clash.begins at null at_k
+              (λ same. absurd (omega arith)) clash.clash.starts clash.clash.follows);
+          left_of_null =
+              λ null clash. keeps (empty_clash clash.octet clash.clash.bit k place clash.begins at_k null at
+              (λ same. absurd (omega arith)) clash.clash.starts clash.clash.follows);
           both_firm = λ left right over. keeps (overlap_back i part other place k parts less at at_k left right over);
         };
       }

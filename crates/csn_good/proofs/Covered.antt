@@ -1,5 +1,6 @@
 -- What the tests of the private functions come to for the rule of keys.
-use Rattle.std.proofs.Common.{◌≡◌, ℕ, zero, suc, ◌+◌, ◌-◌, ◌%◌, ◌<◌, ◌≤◌, List, [], ◌∷◌, ◌++◌, length, take, map, inl, inr, refl, sym, ◌∙◌, ap, subst, arith, Some, slice_get}
+use Rattle.std.proofs.Common.{◌≡◌, ℕ, zero, suc, ◌+◌, ◌-◌, ◌%◌, ◌<◌, ◌≤◌, List, [], ◌∷◌, ◌++◌, length, take, map, inl}
+use Rattle.std.proofs.Common.{inr, refl, sym, ◌∙◌, ap, subst, arith, Some, slice_get}
 use Rattle.std.specs.Prelude.{◌⊎◌, ◌↔◌, IsTrue, Contains, replicate}
 use Rattle.csn_bits.specs.Octets.{octet_position, pattern}
 use Rattle.csn_desc.specs.declared.symbol.Symbol.{Symbol}
@@ -15,7 +16,11 @@ use Rattle.csn_cert.specs.declared.pattern.Mark.TheVariants.{Any}
 use Rattle.csn_cert.specs.PatternV.{PatternV}
 use Rattle.csn_cert.specs.CertificateV.{NodeV, IsCertificate}
 use Rattle.csn_good.specs.ClaimedSets.{claims_of}
-use Rattle.csn_good.specs.Patterns.{mark_of, CoverMarks, Covers, IsCovered, PartsPatterns, TimesPatterns, NodePatterns, patterns_lits, patterns_field, patterns_spare, patterns_pad, patterns_null, patterns_rest, patterns_many, patterns_trunc, patterns_window, patterns_counted_field, patterns_counted_times, patterns_seq, patterns_times, patterns_choice, patterns_named, leaf_pattern}
+use Rattle.csn_good.specs.Patterns.{mark_of, CoverMarks, Covers, IsCovered, PartsPatterns, TimesPatterns}
+use Rattle.csn_good.specs.Patterns.{NodePatterns, patterns_lits, patterns_field, patterns_spare, patterns_pad}
+use Rattle.csn_good.specs.Patterns.{patterns_null, patterns_rest, patterns_many, patterns_trunc, patterns_window}
+use Rattle.csn_good.specs.Patterns.{patterns_counted_field, patterns_counted_times, patterns_seq, patterns_times}
+use Rattle.csn_good.specs.Patterns.{patterns_choice, patterns_named, leaf_pattern}
 use Rattle.csn_good.specs.Good.{KeepsKeys}
 use Rattle.csn_good.specs.Made.{MadeAt, AreMade}
 use Rattle.csn_good.specs.Covering.{IsLeaf, PartIsCovered, EachIsCovered, MadeIsCovered, LeafIsCovered}
@@ -25,7 +30,9 @@ use Rattle.csn_good.proofs.Making.{take_part, take_whole}
 
 -- ---- one pattern covers another
 
-pub cover_from : (wides marks : List Mark) → length wides ≡ length marks → ((k : ℕ) (a b : Mark) → slice_get wides k ≡ Some a → slice_get marks k ≡ Some b → (a ≡ Any) ⊎ (a ≡ b)) → CoverMarks wides marks
+pub cover_from : (wides marks : List Mark)
+    → length wides ≡ length marks → ((k : ℕ) (a b : Mark) → slice_get wides k ≡ Some a → slice_get marks k ≡ Some b
+    → (a ≡ Any) ⊎ (a ≡ b)) → CoverMarks wides marks
 cover_from [] [] size each = tt
 cover_from [] (b ∷ marks) size each = absurd (omega arith)
 cover_from (a ∷ wides) [] size each = absurd (omega arith)
@@ -37,7 +44,8 @@ cover_size [] (b ∷ marks) covers = elim covers [ ]
 cover_size (a ∷ wides) [] covers = elim covers [ ]
 cover_size (a ∷ wides) (b ∷ marks) covers = ap suc (cover_size wides marks covers.1)
 
-pub cover_at : (wides marks : List Mark) (k : ℕ) (a b : Mark) → CoverMarks wides marks → slice_get wides k ≡ Some a → slice_get marks k ≡ Some b → (a ≡ Any) ⊎ (a ≡ b)
+pub cover_at : (wides marks : List Mark) (k : ℕ) (a b : Mark) → CoverMarks wides marks → slice_get wides k ≡ Some a
+    → slice_get marks k ≡ Some b → (a ≡ Any) ⊎ (a ≡ b)
 cover_at [] marks k a b covers at_a at_b = absurd (cc)
 cover_at (x ∷ wides) [] k a b covers at_a at_b = absurd (cc)
 cover_at (x ∷ wides) (y ∷ marks) zero a b covers at_a at_b =
@@ -57,7 +65,9 @@ symbol_turn One n = refl
 symbol_turn Low n = let same : octet_position (n % 8) ≡ octet_position n = omega arith in ap pattern same
 symbol_turn High n = let same : octet_position (n % 8) ≡ octet_position n = omega arith in ap (λ o. 1 - pattern o) same
 
-spelled_at : (run : List Symbol) (place k : ℕ) (s : Symbol) → slice_get run k ≡ Some s → slice_get (map mark_of (spelled run place)) k ≡ Some (mark_of (symbol_bit s (place + k)))
+spelled_at : (run : List Symbol) (place k : ℕ) (s : Symbol)
+    → slice_get run k ≡ Some s → slice_get (map mark_of (spelled run place)) k ≡ Some
+    (mark_of (symbol_bit s (place + k)))
 spelled_at [] place k s at = absurd (cc)
 spelled_at (x ∷ run) place zero s at =
     let same : x ≡ s = cc in
@@ -71,7 +81,9 @@ pub spelled_size : (run : List Symbol) (place : ℕ) → length (map mark_of (sp
 spelled_size [] place = refl
 spelled_size (x ∷ run) place = ap suc (spelled_size run (suc place))
 
-pub spelled_on : (run : List Symbol) (place k : ℕ) (s : Symbol) (mark : Mark) → slice_get run k ≡ Some s → mark ≡ mark_of (symbol_bit s ((place + k) % 8)) → take (k + 1) (map mark_of (spelled run place)) ≡ take k (map mark_of (spelled run place)) ++ mark ∷ []
+pub spelled_on : (run : List Symbol) (place k : ℕ) (s : Symbol) (mark : Mark)
+    → slice_get run k ≡ Some s → mark ≡ mark_of (symbol_bit s ((place + k) % 8))
+    → take (k + 1) (map mark_of (spelled run place)) ≡ take k (map mark_of (spelled run place)) ++ mark ∷ []
 spelled_on run place k s mark at is =
     let marks = map mark_of (spelled run place) in
     let own = is ∙ ap mark_of (symbol_turn s (place + k)) in
@@ -99,7 +111,9 @@ take_until xs k most all = elim (cases_order k 12) [
 -- ---- what the equation of a node makes
 
 -- a node of none of these kinds is a leaf
-pub other_is_leaf : (n : Node) → ((parts : List ℕ) → ¬ (n ≡ Seq parts)) → ((parts : List ℕ) → ¬ (n ≡ Choice parts)) → ((count : Count) (part : ℕ) → ¬ (n ≡ Times count part)) → ((label : List ℕ) (part : ℕ) → ¬ (n ≡ Named label part)) → IsLeaf n
+pub other_is_leaf : (n : Node) → ((parts : List ℕ) → ¬ (n ≡ Seq parts)) → ((parts : List ℕ) → ¬ (n ≡ Choice parts))
+    → ((count : Count) (part : ℕ) → ¬ (n ≡ Times count part))
+    → ((label : List ℕ) (part : ℕ) → ¬ (n ≡ Named label part)) → IsLeaf n
 other_is_leaf (Seq parts) no_seq no_choice no_times no_name = no_seq parts refl
 other_is_leaf (Choice parts) no_seq no_choice no_times no_name = no_choice parts refl
 other_is_leaf (Times count part) no_seq no_choice no_times no_name = absurd (no_times count part refl)
@@ -159,13 +173,16 @@ module _ (d : DescV) (c : List NodeV) (is : IsCertificate c) (i : ℕ) where
   times_only : {n part o : ℕ} {p : PatternV} → NodePatterns d.reading c (Times (Fixed n) part) o p → TimesPatterns c n part o p
   times_only (patterns_times h) = h
 
-  pub times_keys : (n part : ℕ) (made : List (List PatternV)) → AreMade made (TimesPatterns c n part) → KeepsKeys d c i (Times (Fixed n) part) ↔ MadeIsCovered c i made
+  pub times_keys : (n part : ℕ) (made : List (List PatternV)) → AreMade made (TimesPatterns c n part)
+      → KeepsKeys d c i (Times (Fixed n) part) ↔ MadeIsCovered c i made
   times_keys n part made are = (
     (λ keeps o low p reached h. keeps o p reached (patterns_times ((are.are o p low).0 h))),
     (λ h o p reached m. let low = reached_small c is i o reached in h o low p reached ((are.are o p low).1 (times_only m))),
   )
 
-  choice_covered : {parts : List ℕ} {o : ℕ} {p : PatternV} → EachIsCovered c i parts → IsTrue ((claims_of c).reached i o) → NodePatterns d.reading c (Choice parts) o p → IsCovered c i o p
+  choice_covered : {parts : List ℕ} {o : ℕ} {p : PatternV}
+      → EachIsCovered c i parts → IsTrue ((claims_of c).reached i o) → NodePatterns d.reading c (Choice parts) o p
+      → IsCovered c i o p
   choice_covered {o = o} {p = p} each reached (patterns_choice {i = part} j at there) = each j part at o (reached_small c is i o reached) reached p there
 
   pub choice_keys : (parts : List ℕ) → KeepsKeys d c i (Choice parts) ↔ EachIsCovered c i parts
@@ -174,7 +191,9 @@ module _ (d : DescV) (c : List NodeV) (is : IsCertificate c) (i : ℕ) where
     (λ each o p reached m. choice_covered each reached m),
   )
 
-  named_covered : {label : List ℕ} {part o : ℕ} {p : PatternV} → PartIsCovered c i part → IsTrue ((claims_of c).reached i o) → NodePatterns d.reading c (Named label part) o p → IsCovered c i o p
+  named_covered : {label : List ℕ} {part o : ℕ} {p : PatternV}
+      → PartIsCovered c i part → IsTrue ((claims_of c).reached i o) → NodePatterns d.reading c (Named label part) o p
+      → IsCovered c i o p
   named_covered {o = o} {p = p} h reached (patterns_named there) = h o (reached_small c is i o reached) reached p there
 
   pub named_keys : (label : List ℕ) (part : ℕ) → KeepsKeys d c i (Named label part) ↔ PartIsCovered c i part
@@ -185,7 +204,8 @@ module _ (d : DescV) (c : List NodeV) (is : IsCertificate c) (i : ℕ) where
 
 -- ---- what is made from one octet position on
 
-pub in_set : (made : List (List PatternV)) (o : ℕ) (patterns : List PatternV) (p : PatternV) → slice_get made o ≡ Some patterns → MadeAt made o p → Contains patterns p
+pub in_set : (made : List (List PatternV)) (o : ℕ) (patterns : List PatternV) (p : PatternV)
+    → slice_get made o ≡ Some patterns → MadeAt made o p → Contains patterns p
 in_set made o patterns p at h =
     let found = h.at in
     let list : h.patterns ≡ patterns = cc in

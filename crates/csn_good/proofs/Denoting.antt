@@ -62,7 +62,8 @@ size_of (mark ∷ marks) [] holds = absurd (cc)
 size_of (mark ∷ marks) (bit ∷ word) holds =
     let later = size_of marks word (both_true (marks_bit mark bit) (mark_bits marks word) holds).1 in ap suc later
 
-pub joined : (marks : List Mark) (word : List ℕ) (others : List Mark) (rest : List ℕ) → mark_bits marks word ≡ true → mark_bits others rest ≡ true → mark_bits (marks ++ others) (word ++ rest) ≡ true
+pub joined : (marks : List Mark) (word : List ℕ) (others : List Mark) (rest : List ℕ)
+    → mark_bits marks word ≡ true → mark_bits others rest ≡ true → mark_bits (marks ++ others) (word ++ rest) ≡ true
 joined [] [] others rest first second = second
 joined [] (bit ∷ word) others rest first second = absurd (cc)
 joined (mark ∷ marks) [] others rest first second = absurd (cc)
@@ -122,12 +123,16 @@ covered wide p word whole covers holds =
     said wide word whole (record { same = covers.whole ∙ s.same; bits = cover_marks wide.marks p.marks word covers.marks s.bits })
 
 -- what is left of a word is denoted by what is left of the marks
-left_of : (marks : List Mark) (whole : Bool) (x : List ℕ) (mark : Bool) (test : Bool) → nat_le (length marks) 12 ≡ test → Says (if test then record { marks = marks; whole = whole } else record { marks = take 12 marks; whole = false }) x mark → Says (shortened marks whole) x mark
+left_of : (marks : List Mark) (whole : Bool) (x : List ℕ) (mark : Bool) (test : Bool)
+    → nat_le (length marks) 12 ≡ test
+    → Says (if test then record { marks = marks; whole = whole } else record { marks = take 12 marks; whole = false })
+    x mark → Says (shortened marks whole) x mark
 left_of marks whole x mark test is s =
     let P : Bool → Type 0 = λ t. Says (if t then record { marks = marks; whole = whole } else record { marks = take 12 marks; whole = false }) x mark in
     subst P (sym is) s
 
-pub shortened_says : (marks : List Mark) (word : List ℕ) (whole : Bool) (x : List ℕ) (mark : Bool) → mark_bits marks word ≡ true → Cut 12 word whole x mark → Says (shortened marks whole) x mark
+pub shortened_says : (marks : List Mark) (word : List ℕ) (whole : Bool) (x : List ℕ) (mark : Bool)
+    → mark_bits marks word ≡ true → Cut 12 word whole x mark → Says (shortened marks whole) x mark
 shortened_says marks word whole x mark holds (kept short is same) =
     let size = size_of marks word holds in
     let test : nat_le (length marks) 12 ≡ true = grind (arith, nat_tests) in
@@ -162,7 +167,8 @@ any_marks (suc n) [] size are = absurd (omega arith)
 any_marks (suc n) (bit ∷ word) size are =
     and_both (marks_bit Any bit) (mark_bits (replicate n Any) word) (any_bit bit are.0) (any_marks n word (omega arith) are.1)
 
-pub spare_marks : (reading : Reading) (s : Symbol) (o : ℕ) (word : List ℕ) → length word ≡ 1 → IsSpare reading s o word → mark_bits (spare_mark reading s o ∷ []) word ≡ true
+pub spare_marks : (reading : Reading) (s : Symbol) (o : ℕ) (word : List ℕ)
+    → length word ≡ 1 → IsSpare reading s o word → mark_bits (spare_mark reading s o ∷ []) word ≡ true
 spare_marks reading s o [] one h = absurd (omega arith)
 spare_marks reading s o (a ∷ (b ∷ word)) one h = absurd (omega arith)
 spare_marks Received s o (a ∷ []) one h = and_both (marks_bit Any a) true (any_bit a h.0) refl

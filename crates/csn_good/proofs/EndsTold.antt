@@ -1,5 +1,6 @@
 -- Where parts may end, one after another, as sets of octet positions tell it.
-use Rattle.std.proofs.Common.{◌≡◌, ℕ, zero, suc, ◌+◌, ◌<◌, ◌≤◌, ◌⊎◌, inl, inr, Bool, true, false, List, [], ◌∷◌, length, drop, refl, sym, ◌∙◌, ap, subst, arith, Option, Some, None, slice_get}
+use Rattle.std.proofs.Common.{◌≡◌, ℕ, zero, suc, ◌+◌, ◌<◌, ◌≤◌, ◌⊎◌, inl, inr, Bool, true, false, List, [], ◌∷◌}
+use Rattle.std.proofs.Common.{length, drop, refl, sym, ◌∙◌, ap, subst, arith, Option, Some, None, slice_get}
 use Rattle.std.specs.Prelude.{◌↔◌, IsTrue, slice_set}
 use Rattle.std.proofs.lemmas.Bool.Decides.{eqb_tells}
 use Rattle.std.proofs.lemmas.Option.{slice_get_within}
@@ -55,7 +56,8 @@ abbrev pub AreSmall : Claims → Type 0
 AreSmall claims = (i o end : ℕ) → IsTrue (claims.ends i o end) → end ≤ 7
 
 -- octet positions that are collected one by one
-pub collected : (s t : List Bool) (P : ℕ → Type 0) (k : ℕ) → OctetsAre s (λ o. P o × (o < k)) → OctetsAre t (λ o. IsTrue (has_octet s o) ⊎ (o ≡ k)) → P k → OctetsAre t (λ o. P o × (o < k + 1))
+pub collected : (s t : List Bool) (P : ℕ → Type 0) (k : ℕ) → OctetsAre s (λ o. P o × (o < k))
+    → OctetsAre t (λ o. IsTrue (has_octet s o) ⊎ (o ≡ k)) → P k → OctetsAre t (λ o. P o × (o < k + 1))
 collected s t P k are more here o low = (
   (λ h. elim ((more o low).0 h) [
     | inl old ↦ let f = (are o low).0 old in let less = f.1 in (f.0, omega arith)
@@ -132,7 +134,8 @@ module _ (claims : Claims) where
   lead_over (lead_end same) = same
 
   module _ (small : AreSmall claims) where
-    step_to : {i e o : ℕ} {here next : List Bool} {P : ℕ → Type 0} → LeadsOn i here next → o ≤ 7 → IsTrue (has_octet here o) → IsTrue (claims.ends i o e) → P e → OfSome next P
+    step_to : {i e o : ℕ} {here next : List Bool} {P : ℕ → Type 0}
+        → LeadsOn i here next → o ≤ 7 → IsTrue (has_octet here o) → IsTrue (claims.ends i o e) → P e → OfSome next P
     step_to {i} {e} {o} leads low there ends fact =
         let short = small i o e ends in
         record { octet = e; small = short; there = (leads e short).1 (record { octet = o; small = low; there = there; fact = ends }); fact = fact }
@@ -148,7 +151,9 @@ module _ (claims : Claims) where
     pub parts_begin : (parts : List ℕ) (from : List Bool) → InParts parts 0 from from
     parts_begin parts from = record { to = λ p h. h; back = λ p h. h }
 
-    pub parts_on : (parts : List ℕ) (at i : ℕ) (from here next : List Bool) → slice_get parts at ≡ Some i → LeadsOn i here next → InParts parts at from here → InParts parts (at + 1) from next
+    pub parts_on : (parts : List ℕ) (at i : ℕ) (from here next : List Bool)
+        → slice_get parts at ≡ Some i → LeadsOn i here next → InParts parts at from here
+        → InParts parts (at + 1) from next
     parts_on parts at i from here next is leads inv =
         record {
           to = λ p h.
@@ -157,10 +162,18 @@ module _ (claims : Claims) where
               step_to leads old.small old.there split.1 split.2;
           back = λ p h.
               let old = (leads h.octet h.small).0 h.there in
-              inv.back p (record { octet = old.octet; small = old.small; there = old.there; fact = from_part parts i at (λ l. PartsEnd claims l old.octet p) is (parts_next h.octet old.fact h.fact) });
+              inv.back p (record {
+                octet = old.octet;
+                small = old.small;
+                there = old.there;
+                fact =
+                    from_part parts i at (λ l. PartsEnd claims l old.octet p) is (parts_next h.octet old.fact h.fact);
+              });
         }
 
-    pub parts_done : (parts : List ℕ) (at : ℕ) (from here : List Bool) → length parts ≤ at → InParts parts at from here → OctetsAre here (λ p. OfSome from (λ o. PartsEnd claims parts o p))
+    pub parts_done : (parts : List ℕ) (at : ℕ) (from here : List Bool)
+        → length parts ≤ at → InParts parts at from here
+        → OctetsAre here (λ p. OfSome from (λ o. PartsEnd claims parts o p))
     parts_done parts at from here long inv p low =
         let none = drop_over parts at long in (
           λ there. inv.back p (record { octet = p; small = low; there = there; fact = subst (λ l. PartsEnd claims l p p) (sym none) (parts_end refl) }),
@@ -180,7 +193,9 @@ module _ (claims : Claims) where
           within = λ p low there. there;
         }
 
-    pub lead_on : (parts : List ℕ) (at i : ℕ) (from here ends next both : List Bool) → slice_get parts at ≡ Some i → LeadsOn i here next → OctetsAre both (λ o. IsTrue (has_octet ends o) ⊎ IsTrue (has_octet next o)) → Leading parts at from here ends → Leading parts (at + 1) from next both
+    pub lead_on : (parts : List ℕ) (at i : ℕ) (from here ends next both : List Bool)
+        → slice_get parts at ≡ Some i → LeadsOn i here next → OctetsAre both (λ o. IsTrue (has_octet ends o)
+        ⊎ IsTrue (has_octet next o)) → Leading parts at from here ends → Leading parts (at + 1) from next both
     lead_on parts at i from here ends next both is leads joins inv =
         record {
           to = λ p low h. elim (inv.to p low h) [
@@ -193,15 +208,29 @@ module _ (claims : Claims) where
           back_ends = λ p low there. elim ((joins p low).0 there) [
             | inl old ↦ inv.back_ends p low old
             | inr new ↦ let old = (leads p low).0 new in
-                inv.back_here p (record { octet = old.octet; small = old.small; there = old.there; fact = from_part parts i at (λ l. LeadEnd claims l old.octet p) is (lead_next p old.fact (lead_end refl)) })
+                inv.back_here p (record {
+                  octet = old.octet;
+                  small = old.small;
+                  there = old.there;
+                  fact =
+                      from_part parts i at (λ l. LeadEnd claims l old.octet p) is (lead_next p old.fact (lead_end refl));
+                })
           ];
           back_here = λ p h.
               let old = (leads h.octet h.small).0 h.there in
-              inv.back_here p (record { octet = old.octet; small = old.small; there = old.there; fact = from_part parts i at (λ l. LeadEnd claims l old.octet p) is (lead_next h.octet old.fact h.fact) });
+              inv.back_here p (record {
+                octet = old.octet;
+                small = old.small;
+                there = old.there;
+                fact =
+                    from_part parts i at (λ l. LeadEnd claims l old.octet p) is (lead_next h.octet old.fact h.fact);
+              });
           within = λ p low there. (joins p low).1 (inr there);
         }
 
-    pub lead_done : (parts : List ℕ) (at : ℕ) (from here ends : List Bool) → length parts ≤ at → Leading parts at from here ends → OctetsAre ends (λ p. OfSome from (λ o. LeadEnd claims parts o p))
+    pub lead_done : (parts : List ℕ) (at : ℕ) (from here ends : List Bool)
+        → length parts ≤ at → Leading parts at from here ends
+        → OctetsAre ends (λ p. OfSome from (λ o. LeadEnd claims parts o p))
     lead_done parts at from here ends long inv p low =
         let none = drop_over parts at long in (
           inv.back_ends p low,
@@ -222,7 +251,8 @@ module _ (claims : Claims) where
           back = λ p h. record { octet = h.octet; small = h.small; there = h.there; fact = subst (λ k. TimesEnd claims k i h.octet p) is h.fact };
         }
 
-    pub times_on : (i n old_left left : ℕ) (from here next : List Bool) → old_left ≡ suc left → LeadsOn i here next → Going i n old_left from here → Going i n left from next
+    pub times_on : (i n old_left left : ℕ) (from here next : List Bool) → old_left ≡ suc left → LeadsOn i here next
+        → Going i n old_left from here → Going i n left from next
     times_on i n old_left left from here next is leads inv =
         record {
           to = λ p h.
@@ -234,7 +264,8 @@ module _ (claims : Claims) where
               inv.back p (record { octet = old.octet; small = old.small; there = old.there; fact = times_next left h.octet is old.fact h.fact });
         }
 
-    pub times_done : (i n left : ℕ) (from here : List Bool) → left ≡ 0 → Going i n left from here → OctetsAre here (λ p. OfSome from (λ o. TimesEnd claims n i o p))
+    pub times_done : (i n left : ℕ) (from here : List Bool) → left ≡ 0 → Going i n left from here
+        → OctetsAre here (λ p. OfSome from (λ o. TimesEnd claims n i o p))
     times_done i n left from here none inv p low = (
       λ there. inv.back p (record { octet = p; small = low; there = there; fact = times_end none refl }),
       λ h. let old = inv.to p h in
@@ -245,19 +276,28 @@ module _ (claims : Claims) where
     pub fewer_begin : (i n left : ℕ) (from none : List Bool) → left ≡ n → OctetsAre none (λ o. ⊥) → GoingFewer i n left from from none
     fewer_begin i n left from none is empty =
         record {
-          to = λ p low h. inr (record { octet = h.octet; small = h.small; there = h.there; fact = subst (λ k. EndsFewer claims k i h.octet p) (sym is) h.fact });
+          to = λ p low h. inr (record {
+            octet = h.octet;
+            small = h.small;
+            there = h.there;
+            fact =
+                subst (λ k. EndsFewer claims k i h.octet p) (sym is) h.fact;
+          });
           back_ends = λ p low there. absurd ((empty p low).0 there);
           back_here = λ p h. record { octet = h.octet; small = h.small; there = h.there; fact = subst (λ k. EndsFewer claims k i h.octet p) is h.fact };
         }
 
-    fewer_split : {i o p n : ℕ} (left : ℕ) → n ≡ suc left → EndsFewer claims n i o p → (p ≡ o) ⊎ ((m : ℕ) × IsTrue (claims.ends i o m) × EndsFewer claims left i m p)
+    fewer_split : {i o p n : ℕ} (left : ℕ) → n ≡ suc left → EndsFewer claims n i o p → (p ≡ o)
+        ⊎ ((m : ℕ) × IsTrue (claims.ends i o m) × EndsFewer claims left i m p)
     fewer_split {i} {o} {p} {n} left is h = by_ends h.times h.less h.ends
       where
         by_ends : (times : ℕ) → times < n → TimesEnd claims times i o p → (p ≡ o) ⊎ ((m : ℕ) × IsTrue (claims.ends i o m) × EndsFewer claims left i m p)
         by_ends times less (times_end none same) = inl same
         by_ends times less (times_next k m over e others) = inr (m, e, record { times = k; less = omega arith; ends = others })
 
-    pub fewer_on : (i n old_left left : ℕ) (from here ends next both : List Bool) → old_left ≡ suc left → LeadsOn i here next → OctetsAre both (λ o. IsTrue (has_octet ends o) ⊎ IsTrue (has_octet here o)) → GoingFewer i n old_left from here ends → GoingFewer i n left from next both
+    pub fewer_on : (i n old_left left : ℕ) (from here ends next both : List Bool)
+        → old_left ≡ suc left → LeadsOn i here next → OctetsAre both (λ o. IsTrue (has_octet ends o)
+        ⊎ IsTrue (has_octet here o)) → GoingFewer i n old_left from here ends → GoingFewer i n left from next both
     fewer_on i n old_left left from here ends next both is leads joins inv =
         record {
           to = λ p low h. elim (inv.to p low h) [
@@ -269,14 +309,32 @@ module _ (claims : Claims) where
           ];
           back_ends = λ p low there. elim ((joins p low).0 there) [
             | inl old ↦ inv.back_ends p low old
-            | inr new ↦ inv.back_here p (record { octet = p; small = low; there = new; fact = record { times = 0; less = omega arith; ends = times_end refl refl } })
+            | inr new ↦ inv.back_here p (record {
+              octet = p;
+              small = low;
+              there = new;
+              fact =
+                  record { times = 0; less = omega arith; ends = times_end refl refl };
+            })
           ];
           back_here = λ p h.
               let old = (leads h.octet h.small).0 h.there in
-              inv.back_here p (record { octet = old.octet; small = old.small; there = old.there; fact = record { times = suc h.fact.times; less = (let l = h.fact.less in omega arith); ends = times_next h.fact.times h.octet refl old.fact h.fact.ends } });
+              inv.back_here p (record {
+                octet = old.octet;
+                small = old.small;
+                there = old.there;
+                fact =
+                    record {
+                      times = suc h.fact.times;
+                      less = (let l = h.fact.less in omega arith);
+                      ends =
+                          times_next h.fact.times h.octet refl old.fact h.fact.ends;
+                    };
+              });
         }
 
-    pub fewer_done : (i n left : ℕ) (from here ends : List Bool) → left ≡ 0 → GoingFewer i n left from here ends → OctetsAre ends (λ p. OfSome from (λ o. EndsFewer claims n i o p))
+    pub fewer_done : (i n left : ℕ) (from here ends : List Bool) → left ≡ 0 → GoingFewer i n left from here ends
+        → OctetsAre ends (λ p. OfSome from (λ o. EndsFewer claims n i o p))
     fewer_done i n left from here ends none inv p low = (
       inv.back_ends p low,
       λ h. elim (inv.to p low h) [ inl there ↦ there | inr old ↦ (let l = old.fact.less in absurd (omega arith)) ],
@@ -288,7 +346,9 @@ module _ (claims : Claims) where
     many_begin i from =
         record { within = λ p low there. there; sound = λ p low there. record { octet = p; small = low; there = there; fact = many_end refl } }
 
-    pub many_on : (i end : ℕ) (from ends more : List Bool) → OctetsAre more (λ o. IsTrue (has_octet ends o) ⊎ (o ≡ end)) → OfSome ends (λ o. IsTrue (claims.ends i o end)) → Growing i from ends → Growing i from more
+    pub many_on : (i end : ℕ) (from ends more : List Bool)
+        → OctetsAre more (λ o. IsTrue (has_octet ends o) ⊎ (o ≡ end))
+        → OfSome ends (λ o. IsTrue (claims.ends i o end)) → Growing i from ends → Growing i from more
     many_on i end from ends more joins leads inv =
         record {
           within = λ p low there. (joins p low).1 (inl (inv.within p low there));
@@ -301,13 +361,17 @@ module _ (claims : Claims) where
           ];
         }
 
-    closed_many : (i : ℕ) (ends : List Bool) → ((e : ℕ) → e ≤ 7 → OfSome ends (λ o. IsTrue (claims.ends i o e)) → IsTrue (has_octet ends e)) → {o p : ℕ} → o ≤ 7 → IsTrue (has_octet ends o) → ManyEnd claims i o p → IsTrue (has_octet ends p)
+    closed_many : (i : ℕ) (ends : List Bool)
+        → ((e : ℕ) → e ≤ 7 → OfSome ends (λ o. IsTrue (claims.ends i o e)) → IsTrue (has_octet ends e)) → {o p : ℕ}
+        → o ≤ 7 → IsTrue (has_octet ends o) → ManyEnd claims i o p → IsTrue (has_octet ends p)
     closed_many i ends closed low there (many_end same) = subst (λ q. IsTrue (has_octet ends q)) (sym same) there
     closed_many i ends closed {o} low there (many_next m e others) =
         let short = small i o m e in
         closed_many i ends closed short (closed m short (record { octet = o; small = low; there = there; fact = e })) others
 
-    pub many_done : (i : ℕ) (from ends : List Bool) → ((e : ℕ) → e ≤ 7 → OfSome ends (λ o. IsTrue (claims.ends i o e)) → IsTrue (has_octet ends e)) → Growing i from ends → OctetsAre ends (λ p. OfSome from (λ o. ManyEnd claims i o p))
+    pub many_done : (i : ℕ) (from ends : List Bool)
+        → ((e : ℕ) → e ≤ 7 → OfSome ends (λ o. IsTrue (claims.ends i o e)) → IsTrue (has_octet ends e))
+        → Growing i from ends → OctetsAre ends (λ p. OfSome from (λ o. ManyEnd claims i o p))
     many_done i from ends closed inv p low = (
       inv.sound p low,
       λ h. closed_many i ends closed h.small (inv.within h.octet h.small h.there) h.fact,
@@ -333,32 +397,89 @@ module _ (claims : Claims) (parts : List ℕ) (from : List Bool) where
   same_part : {at place i part : ℕ} → slice_get parts at ≡ Some i → slice_get parts place ≡ Some part → place ≡ at → part ≡ i
   same_part one two same = cc
 
-  pub some_on : (at i : ℕ) (ends next both : List Bool) → slice_get parts at ≡ Some i → LeadsOn claims i from next → OctetsAre both (λ o. IsTrue (has_octet ends o) ⊎ IsTrue (has_octet next o)) → OctetsAre ends (λ p. OfSome from (λ o. EndsBefore claims parts at o p)) → OctetsAre both (λ p. OfSome from (λ o. EndsBefore claims parts (at + 1) o p))
+  pub some_on : (at i : ℕ) (ends next both : List Bool) → slice_get parts at ≡ Some i → LeadsOn claims i from next
+      → OctetsAre both (λ o. IsTrue (has_octet ends o) ⊎ IsTrue (has_octet next o))
+      → OctetsAre ends (λ p. OfSome from (λ o. EndsBefore claims parts at o p))
+      → OctetsAre both (λ p. OfSome from (λ o. EndsBefore claims parts (at + 1) o p))
   some_on at i ends next both is leads joins before p low = (
     (λ h. elim ((joins p low).0 h) [
       | inl old ↦
           let f = (before p low).0 old in
           let less = f.fact.before in
-          record { octet = f.octet; small = f.small; there = f.there; fact = record { place = f.fact.place; before = omega (arith, less); part = f.fact.part; is = f.fact.is; ends = f.fact.ends } }
+          record {
+            octet = f.octet;
+            small = f.small;
+            there = f.there;
+            fact =
+                record {
+                  place = f.fact.place;
+                  before = omega (arith, less);
+                  part = f.fact.part;
+                  is = f.fact.is;
+                  ends =
+                      f.fact.ends;
+                };
+          }
       | inr new ↦
           let f = (leads p low).0 new in
           record { octet = f.octet; small = f.small; there = f.there; fact = record { place = at; before = omega arith; part = i; is = is; ends = f.fact } }
     ]),
     (λ h. (joins p low).1 (elim (eqb_tells h.fact.place at) [
-      | inl same ↦ inr ((leads p low).1 (record { octet = h.octet; small = h.small; there = h.there; fact = subst (λ k. IsTrue (claims.ends k h.octet p)) (same_part is h.fact.is same.1) h.fact.ends }))
+      | inl same ↦ inr
+          ((leads p low).1 (record {
+            octet = h.octet;
+            small = h.small;
+            there = h.there;
+            fact =
+                subst (λ k. IsTrue (claims.ends k h.octet p)) (same_part is h.fact.is same.1) h.fact.ends;
+          }))
       | inr apart ↦
           let less = h.fact.before in
           let differ = apart.1 in
-          inl ((before p low).1 (record { octet = h.octet; small = h.small; there = h.there; fact = record { place = h.fact.place; before = omega (arith, less, differ); part = h.fact.part; is = h.fact.is; ends = h.fact.ends } }))
+          inl ((before p low).1 (record {
+            octet = h.octet;
+            small = h.small;
+            there = h.there;
+            fact =
+                record {
+                  place = h.fact.place;
+                  before = omega (arith, less, differ);
+                  part = h.fact.part;
+                  is =
+                      h.fact.is;
+                  ends = h.fact.ends;
+                };
+          }))
     ])),
   )
 
-  pub some_done : (at : ℕ) (ends : List Bool) → length parts ≤ at → OctetsAre ends (λ p. OfSome from (λ o. EndsBefore claims parts at o p)) → OctetsAre ends (λ p. OfSome from (λ o. SomeEnds claims parts o p))
+  pub some_done : (at : ℕ) (ends : List Bool)
+      → length parts ≤ at → OctetsAre ends (λ p. OfSome from (λ o. EndsBefore claims parts at o p))
+      → OctetsAre ends (λ p. OfSome from (λ o. SomeEnds claims parts o p))
   some_done at ends all before p low = (
-    (λ h. let f = (before p low).0 h in record { octet = f.octet; small = f.small; there = f.there; fact = record { place = f.fact.place; part = f.fact.part; at = f.fact.is; ends = f.fact.ends } }),
+    (λ h. let f = (before p low).0 h in record {
+      octet = f.octet;
+      small = f.small;
+      there = f.there;
+      fact =
+          record { place = f.fact.place; part = f.fact.part; at = f.fact.is; ends = f.fact.ends };
+    }),
     (λ h.
         let inside = slice_get_within parts h.fact.place h.fact.part h.fact.at in
-        (before p low).1 (record { octet = h.octet; small = h.small; there = h.there; fact = record { place = h.fact.place; before = omega (arith, inside, all); part = h.fact.part; is = h.fact.at; ends = h.fact.ends } })),
+        (before p low).1 (record {
+          octet = h.octet;
+          small = h.small;
+          there = h.there;
+          fact =
+              record {
+                place = h.fact.place;
+                before = omega (arith, inside, all);
+                part = h.fact.part;
+                is =
+                    h.fact.at;
+                ends = h.fact.ends;
+              };
+        })),
   )
 
 -- ---- what a test tells

@@ -4,7 +4,10 @@ use Rattle.std.specs.Prelude.{◌⊎◌}
 use Rattle.csn_desc.specs.declared.node.Node.{Node}
 use Rattle.csn_desc.specs.Nodes.{DescV}
 use Rattle.csn_cert.specs.CertificateV.{NodeV}
-use Rattle.csn_good.specs.Good.{KeepsNumber, KeepsNullable, KeepsEnds, KeepsStart, KeepsKeys, KeepsReached, KeepsFollow, KeepsApart, KeepsRules, Breaks, breaks_number, breaks_nullable, breaks_ends, breaks_start, breaks_keys, breaks_reached, breaks_follow, breaks_apart, FirstFault}
+use Rattle.csn_good.specs.Good.{KeepsNumber, KeepsNullable, KeepsEnds, KeepsStart, KeepsKeys, KeepsReached}
+use Rattle.csn_good.specs.Good.{KeepsFollow, KeepsApart, KeepsRules, Breaks, breaks_number, breaks_nullable}
+use Rattle.csn_good.specs.Good.{breaks_ends, breaks_start, breaks_keys, breaks_reached, breaks_follow, breaks_apart}
+use Rattle.csn_good.specs.Good.{FirstFault}
 use Rattle.csn_good.specs.Faults.{FaultAt}
 
 lower : (a b : ℕ) → (a < b) ⊎ (b ≤ a)
@@ -26,7 +29,8 @@ module _ (d : DescV) (c : List NodeV) (number : KeepsNumber d c) where
     pub follow : 7 < rule → KeepsFollow d c i n
 
   -- a rule that the node breaks is none of those that it keeps
-  not_kept : (own rule i : ℕ) {n m : Node} {other : ℕ} (Keeps : Node → Type 0) → slice_get d.nodes i ≡ Some n → slice_get d.nodes i ≡ Some m → (own < rule → Keeps n) → ¬ Keeps m → other ≡ own → rule ≤ other
+  not_kept : (own rule i : ℕ) {n m : Node} {other : ℕ} (Keeps : Node → Type 0) → slice_get d.nodes i ≡ Some n
+      → slice_get d.nodes i ≡ Some m → (own < rule → Keeps n) → ¬ Keeps m → other ≡ own → rule ≤ other
   not_kept own rule i Keeps at there kept wrong is =
       elim (lower own rule) [ inl less ↦ absurd (wrong (subst Keeps (same_node d i at there) (kept less))) | inr low ↦ omega arith ]
 
@@ -51,7 +55,8 @@ module _ (d : DescV) (c : List NodeV) (number : KeepsNumber d c) where
   kept_all rule i keeps (breaks_follow n r at wrong) = wrong (keeps n at).follow
   kept_all rule i keeps (breaks_apart n r at wrong) = wrong (keeps n at).apart
 
-  pub first_fault : (rule i : ℕ) → ((k : ℕ) (n : Node) → k < i → slice_get d.nodes k ≡ Some n → KeepsRules d c k n) → FaultAt d c i rule → FirstFault d c rule i
+  pub first_fault : (rule i : ℕ) → ((k : ℕ) (n : Node) → k < i → slice_get d.nodes k ≡ Some n → KeepsRules d c k n)
+      → FaultAt d c i rule → FirstFault d c rule i
   first_fault rule i before fault = record {
     breaks = fault.breaks;
     first = λ other_rule other broken. elim (lower i other) [
@@ -91,46 +96,113 @@ module _ (d : DescV) (c : List NodeV) (number : KeepsNumber d c) (i : ℕ) (n : 
   pub fault_nullable : ¬ KeepsNullable d c i n → FaultAt d c i 2
   fault_nullable wrong = record {
     breaks = breaks_nullable n refl at wrong;
-    least = least d c number 2 i n (omega arith) at (record { nullable = λ less. absurd (omega arith); ends = λ less. absurd (omega arith); start = λ less. absurd (omega arith); keys = λ less. absurd (omega arith); reached = λ less. absurd (omega arith); follow = λ less. absurd (omega arith) });
+    least = least d c number 2 i n (omega arith) at (record {
+      nullable = λ less. absurd (omega arith);
+      ends =
+          λ less. absurd (omega arith);
+      start = λ less. absurd (omega arith);
+      keys =
+          λ less. absurd (omega arith);
+      reached = λ less. absurd (omega arith);
+      follow =
+          λ less. absurd (omega arith);
+    });
   }
 
   module _ (nullable : KeepsNullable d c i n) where
     pub fault_ends : ¬ KeepsEnds d c i n → FaultAt d c i 3
     fault_ends wrong = record {
       breaks = breaks_ends n refl at wrong;
-      least = least d c number 3 i n (omega arith) at (record { nullable = λ less. nullable; ends = λ less. absurd (omega arith); start = λ less. absurd (omega arith); keys = λ less. absurd (omega arith); reached = λ less. absurd (omega arith); follow = λ less. absurd (omega arith) });
+      least = least d c number 3 i n (omega arith) at
+          (record {
+            nullable = λ less. nullable;
+            ends = λ less. absurd (omega arith);
+            start =
+                λ less. absurd (omega arith);
+            keys = λ less. absurd (omega arith);
+            reached =
+                λ less. absurd (omega arith);
+            follow = λ less. absurd (omega arith);
+          });
     }
 
     module _ (ends : KeepsEnds d c i n) where
       pub fault_start : ¬ KeepsStart d c i n → FaultAt d c i 4
       fault_start wrong = record {
         breaks = breaks_start n refl at wrong;
-        least = least d c number 4 i n (omega arith) at (record { nullable = λ less. nullable; ends = λ less. ends; start = λ less. absurd (omega arith); keys = λ less. absurd (omega arith); reached = λ less. absurd (omega arith); follow = λ less. absurd (omega arith) });
+        least = least d c number 4 i n (omega arith) at
+            (record {
+              nullable = λ less. nullable;
+              ends = λ less. ends;
+              start = λ less. absurd (omega arith);
+              keys =
+                  λ less. absurd (omega arith);
+              reached = λ less. absurd (omega arith);
+              follow =
+                  λ less. absurd (omega arith);
+            });
       }
 
       module _ (start : KeepsStart d c i n) where
         pub fault_keys : ¬ KeepsKeys d c i n → FaultAt d c i 5
         fault_keys wrong = record {
           breaks = breaks_keys n refl at wrong;
-          least = least d c number 5 i n (omega arith) at (record { nullable = λ less. nullable; ends = λ less. ends; start = λ less. start; keys = λ less. absurd (omega arith); reached = λ less. absurd (omega arith); follow = λ less. absurd (omega arith) });
+          least = least d c number 5 i n (omega arith) at
+              (record {
+                nullable = λ less. nullable;
+                ends = λ less. ends;
+                start = λ less. start;
+                keys =
+                    λ less. absurd (omega arith);
+                reached = λ less. absurd (omega arith);
+                follow =
+                    λ less. absurd (omega arith);
+              });
         }
 
         module _ (keys : KeepsKeys d c i n) where
           pub fault_reached : ¬ KeepsReached d c i n → FaultAt d c i 6
           fault_reached wrong = record {
             breaks = breaks_reached n refl at wrong;
-            least = least d c number 6 i n (omega arith) at (record { nullable = λ less. nullable; ends = λ less. ends; start = λ less. start; keys = λ less. keys; reached = λ less. absurd (omega arith); follow = λ less. absurd (omega arith) });
+            least = least d c number 6 i n (omega arith) at
+                (record {
+                  nullable = λ less. nullable;
+                  ends = λ less. ends;
+                  start = λ less. start;
+                  keys =
+                      λ less. keys;
+                  reached = λ less. absurd (omega arith);
+                  follow = λ less. absurd (omega arith);
+                });
           }
 
           module _ (reached : KeepsReached d c i n) where
             pub fault_follow : ¬ KeepsFollow d c i n → FaultAt d c i 7
             fault_follow wrong = record {
               breaks = breaks_follow n refl at wrong;
-              least = least d c number 7 i n (omega arith) at (record { nullable = λ less. nullable; ends = λ less. ends; start = λ less. start; keys = λ less. keys; reached = λ less. reached; follow = λ less. absurd (omega arith) });
+              least = least d c number 7 i n (omega arith) at
+                  (record {
+                    nullable = λ less. nullable;
+                    ends = λ less. ends;
+                    start = λ less. start;
+                    keys =
+                        λ less. keys;
+                    reached = λ less. reached;
+                    follow = λ less. absurd (omega arith);
+                  });
             }
 
             pub fault_apart : KeepsFollow d c i n → ¬ KeepsApart d c i n → FaultAt d c i 8
             fault_apart follow wrong = record {
               breaks = breaks_apart n refl at wrong;
-              least = least d c number 8 i n (omega arith) at (record { nullable = λ less. nullable; ends = λ less. ends; start = λ less. start; keys = λ less. keys; reached = λ less. reached; follow = λ less. follow });
+              least = least d c number 8 i n (omega arith) at
+                  (record {
+                    nullable = λ less. nullable;
+                    ends = λ less. ends;
+                    start = λ less. start;
+                    keys =
+                        λ less. keys;
+                    reached = λ less. reached;
+                    follow = λ less. follow;
+                  });
             }

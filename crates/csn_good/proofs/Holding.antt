@@ -8,16 +8,19 @@ use Rattle.csn_cert.specs.CertificateV.{NodeV}
 use Rattle.csn_claims.specs.Keys.{NodeKeys}
 use Rattle.csn_claims.specs.Holding.{Holds}
 use Rattle.csn_good.specs.ClaimedSets.{denotes, patterns_at, claims_of}
-use Rattle.csn_good.specs.Good.{KeepsKeys, Good, Breaks, breaks_number, breaks_nullable, breaks_ends, breaks_start, breaks_keys, breaks_reached, breaks_follow, breaks_apart, FirstFault}
+use Rattle.csn_good.specs.Good.{KeepsKeys, Good, Breaks, breaks_number, breaks_nullable, breaks_ends, breaks_start}
+use Rattle.csn_good.specs.Good.{breaks_keys, breaks_reached, breaks_follow, breaks_apart, FirstFault}
 use Rattle.csn_good.proofs.Denoting.{said, covered, any_true}
 use Rattle.csn_good.proofs.Denoted.{node_denoted}
 
 module _ (d : DescV) (c : List NodeV) where
-  keys_held : (i o : ℕ) (x : List ℕ) (mark : Bool) (n : Node) → KeepsKeys d c i n → IsTrue ((claims_of c).reached i o) → NodeKeys d 12 (claims_of c) n o x mark → IsTrue ((claims_of c).keys i o x mark)
+  keys_held : (i o : ℕ) (x : List ℕ) (mark : Bool) (n : Node) → KeepsKeys d c i n → IsTrue ((claims_of c).reached i o)
+      → NodeKeys d 12 (claims_of c) n o x mark → IsTrue ((claims_of c).keys i o x mark)
   keys_held i o x mark n keeps reached key =
       let m = node_denoted d c key in
       let wide = keeps o m.pattern reached m.is_made in
-      any_true (λ p. denotes p x mark) (patterns_at c i o) wide.wide wide.is_claimed (covered wide.wide m.pattern x mark wide.covers (said m.pattern x mark m.says))
+      any_true (λ p. denotes p x mark) (patterns_at c i o) wide.wide wide.is_claimed
+      (covered wide.wide m.pattern x mark wide.covers (said m.pattern x mark m.says))
 
   root_is : {seen : List ℕ} {round i : ℕ} → Formed d.nodes seen round i → (n : Node) × (slice_get d.nodes i ≡ Some n)
   root_is (formed n at few head have room others) = (n, at)

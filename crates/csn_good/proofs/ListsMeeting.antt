@@ -49,13 +49,18 @@ bit_meets bit One Zero one left right =
 
 -- ---- lists that are gone through
 
-pub with_none : (patterns : List PatternV) (at : ℕ) (bit : Mark) (some : List PatternV) → some ≡ [] → (p : PatternV) → Contains some p ↔ (Contains (take 0 patterns) p × MayHave at bit p)
+pub with_none : (patterns : List PatternV) (at : ℕ) (bit : Mark) (some : List PatternV) → some ≡ [] → (p : PatternV)
+    → Contains some p ↔ (Contains (take 0 patterns) p × MayHave at bit p)
 with_none patterns at bit some none p = (
   (λ h. let there = subst (λ (l : List PatternV). Contains l p) none h in absurd (omega (arith, there.1))),
   (λ h. let there = h.0 in absurd (omega (arith, there.1))),
 )
 
-pub with_next : (patterns : List PatternV) (at k : ℕ) (bit : Mark) (x : PatternV) (old new : List PatternV) → slice_get patterns k ≡ Some x → ((p : PatternV) → Contains new p ↔ (Contains old p ⊎ ((p ≡ x) × MayHave at bit p))) → ((p : PatternV) → Contains old p ↔ (Contains (take k patterns) p × MayHave at bit p)) → (p : PatternV) → Contains new p ↔ (Contains (take (k + 1) patterns) p × MayHave at bit p)
+pub with_next : (patterns : List PatternV) (at k : ℕ) (bit : Mark) (x : PatternV) (old new : List PatternV)
+    → slice_get patterns k ≡ Some x
+    → ((p : PatternV) → Contains new p ↔ (Contains old p ⊎ ((p ≡ x) × MayHave at bit p)))
+    → ((p : PatternV) → Contains old p ↔ (Contains (take k patterns) p × MayHave at bit p)) → (p : PatternV)
+    → Contains new p ↔ (Contains (take (k + 1) patterns) p × MayHave at bit p)
 with_next patterns at k bit x old new is added before p =
     let same = take_part patterns k x is in
     subst (λ (l : List PatternV). Contains new p ↔ (Contains l p × MayHave at bit p)) (sym same) (
@@ -69,13 +74,18 @@ with_next patterns at k bit x old new is added before p =
       ]),
     )
 
-pub with_all : (patterns : List PatternV) (at k : ℕ) (bit : Mark) (some : List PatternV) → length patterns ≤ k → ((p : PatternV) → Contains some p ↔ (Contains (take k patterns) p × MayHave at bit p)) → (p : PatternV) → Contains some p ↔ (Contains patterns p × MayHave at bit p)
-with_all patterns at k bit some long each p = subst (λ (l : List PatternV). Contains some p ↔ (Contains l p × MayHave at bit p)) (take_whole patterns k long) (each p)
+pub with_all : (patterns : List PatternV) (at k : ℕ) (bit : Mark) (some : List PatternV)
+    → length patterns ≤ k → ((p : PatternV) → Contains some p ↔ (Contains (take k patterns) p × MayHave at bit p))
+    → (p : PatternV) → Contains some p ↔ (Contains patterns p × MayHave at bit p)
+with_all patterns at k bit some long each p =
+    subst (λ (l : List PatternV). Contains some p ↔ (Contains l p × MayHave at bit p)) (take_whole patterns k long)
+    (each p)
 
 pub short_none : (patterns : List PatternV) (at : ℕ) → HasShort (take 0 patterns) at → ⊥
 short_none patterns at h = let there = h.is_one in absurd (omega (arith, there.1))
 
-pub short_next : (patterns : List PatternV) (at k : ℕ) (x : PatternV) → slice_get patterns k ≡ Some x → at < length x.marks → (HasShort (take k patterns) at → ⊥) → HasShort (take (k + 1) patterns) at → ⊥
+pub short_next : (patterns : List PatternV) (at k : ℕ) (x : PatternV) → slice_get patterns k ≡ Some x
+    → at < length x.marks → (HasShort (take k patterns) at → ⊥) → HasShort (take (k + 1) patterns) at → ⊥
 short_next patterns at k x is long before =
     subst (λ (l : List PatternV). HasShort l at → ⊥) (sym (take_part patterns k x is)) (λ h.
     elim ((one_more (take k patterns) x h.pattern).0 h.is_one) [
@@ -126,7 +136,8 @@ short_right left right at some short =
       meet = record { marks = λ k a b low at_a at_b. absurd (omega (arith, low, within short.pattern k b at_b, short.short)) };
     }
 
-mark_there : (patterns : List PatternV) (at : ℕ) (p : PatternV) → (HasShort patterns at → ⊥) → Contains patterns p → (a : Mark) × (slice_get p.marks at ≡ Some a)
+mark_there : (patterns : List PatternV) (at : ℕ) (p : PatternV) → (HasShort patterns at → ⊥)
+    → Contains patterns p → (a : Mark) × (slice_get p.marks at ≡ Some a)
 mark_there patterns at p long there =
     elim (cases_lt at (length p.marks)) [
       | inl low ↦ item_at p.marks at low
@@ -137,7 +148,8 @@ mark_there patterns at p long there =
 abbrev pub AreWith : List PatternV → ℕ → Mark → List PatternV → Type 0
 AreWith patterns at bit some = (p : PatternV) → Contains some p ↔ (Contains patterns p × MayHave at bit p)
 
-pub back_from : (left right own others : List PatternV) (at : ℕ) (bit : Mark) → (bit ≡ Any → ⊥) → AreWith left at bit own → AreWith right at bit others → ListsMeet own others (at + 1) → ListsMeet left right at
+pub back_from : (left right own others : List PatternV) (at : ℕ) (bit : Mark) → (bit ≡ Any → ⊥)
+    → AreWith left at bit own → AreWith right at bit others → ListsMeet own others (at + 1) → ListsMeet left right at
 back_from left right own others at bit one are_own are_others h =
     let a_one = (are_own h.one).0 h.is_one in
     let a_other = (are_others h.other).0 h.is_other in
@@ -152,13 +164,17 @@ back_from left right own others at bit one are_own are_others h =
               | inl same ↦
                   let is_a = one_item h.one.marks same.1 at_a a_one.1.there in
                   let is_b = one_item h.other.marks same.1 at_b a_other.1.there in
-                  subst (λ (x : Mark). MarksMeet x b) (sym is_a) (subst (λ (y : Mark). MarksMeet a_one.1.mark y) (sym is_b) (bit_meets bit a_one.1.mark a_other.1.mark one a_one.1.meets a_other.1.meets))
+                  subst (λ (x : Mark). MarksMeet x b) (sym is_a) (subst (λ (y : Mark). MarksMeet a_one.1.mark y)
+                  (sym is_b) (bit_meets bit a_one.1.mark a_other.1.mark one a_one.1.meets a_other.1.meets))
               | inr apart ↦ (let differ = apart.1 in h.meet.marks k a b (omega arith) at_a at_b)
             ];
       };
     }
 
-pub either_bit : (left right zeros zero_others ones one_others : List PatternV) (at : ℕ) → (HasShort left at → ⊥) → (HasShort right at → ⊥) → AreWith left at Zero zeros → AreWith right at Zero zero_others → AreWith left at One ones → AreWith right at One one_others → ListsMeet left right at → ListsMeet zeros zero_others (at + 1) ⊎ ListsMeet ones one_others (at + 1)
+pub either_bit : (left right zeros zero_others ones one_others : List PatternV) (at : ℕ) → (HasShort left at → ⊥)
+    → (HasShort right at → ⊥) → AreWith left at Zero zeros → AreWith right at Zero zero_others
+    → AreWith left at One ones → AreWith right at One one_others → ListsMeet left right at
+    → ListsMeet zeros zero_others (at + 1) ⊎ ListsMeet ones one_others (at + 1)
 either_bit left right zeros zero_others ones one_others at long_left long_right are_zeros are_zero_others are_ones are_one_others h =
     let a = mark_there left at h.one long_left h.is_one in
     let b = mark_there right at h.other long_right h.is_other in
@@ -182,7 +198,8 @@ either_bit left right zeros zero_others ones one_others at long_left long_right 
 
 -- ---- claimed patterns
 
-pub parts_meet_from : (c : List NodeV) (left right octet : ℕ) → ListsMeet (patterns_at c left octet) (patterns_at c right octet) 0 ↔ PartsMeet c left right octet
+pub parts_meet_from : (c : List NodeV) (left right octet : ℕ)
+    → ListsMeet (patterns_at c left octet) (patterns_at c right octet) 0 ↔ PartsMeet c left right octet
 parts_meet_from c left right octet = (
   (λ h. record {
     place = h.is_one.0;

@@ -1,5 +1,7 @@
 -- Patterns that are made: their numbers, two of them one after the other, and those of parts one after another.
-use Rattle.std.proofs.Common.{◌≡◌, ℕ, zero, suc, ◌+◌, ◌*◌, ◌-◌, ◌%◌, ◌<◌, ◌≤◌, Bool, true, false, if◌then◌else◌, List, [], ◌∷◌, ◌++◌, length, take, drop, inl, inr, refl, sym, ◌∙◌, ap, subst, arith, Option, Some, None, slice_get, nat_eq, append_assoc, length-append}
+use Rattle.std.proofs.Common.{◌≡◌, ℕ, zero, suc, ◌+◌, ◌*◌, ◌-◌, ◌%◌, ◌<◌, ◌≤◌, Bool, true, false, if◌then◌else◌, List}
+use Rattle.std.proofs.Common.{[], ◌∷◌, ◌++◌, length, take, drop, inl, inr, refl, sym, ◌∙◌, ap, subst, arith, Option}
+use Rattle.std.proofs.Common.{Some, None, slice_get, nat_eq, append_assoc, length-append}
 use Rattle.std.specs.Prelude.{◌⊎◌, ◌↔◌, IsTrue, Contains, nat_le, ◌==◌, ◌&&◌, is_some, IfSome}
 use Rattle.std.specs.List.{list_any}
 use Rattle.std.proofs.lemmas.Bool.Decides.{nat_tests}
@@ -82,7 +84,8 @@ number_small marks k number few is = let low = number_low (drop k marks) 12 (dro
 pub digit_small : (mark : Mark) → digit_of mark ≤ 3
 digit_small mark = (digit_low mark).1
 
-pub number_more : (marks : List Mark) (k : ℕ) (mark : Mark) → 0 < k → slice_get marks (k - 1) ≡ Some mark → 3 * marks_number (drop k marks) + digit_of mark ≡ marks_number (drop (k - 1) marks)
+pub number_more : (marks : List Mark) (k : ℕ) (mark : Mark) → 0 < k → slice_get marks (k - 1) ≡ Some mark
+    → 3 * marks_number (drop k marks) + digit_of mark ≡ marks_number (drop (k - 1) marks)
 number_more marks k mark some at =
     let same = drop_part marks (k - 1) mark at in
     let next : k - 1 + 1 ≡ k = omega arith in
@@ -94,20 +97,27 @@ number_more marks k mark some at =
 pub one_more : {X : Type 0} (xs : List X) (x p : X) → Contains (xs ++ x ∷ []) p ↔ (Contains xs p ⊎ (p ≡ x))
 one_more xs x p = (
   (λ h. elim (Contains-append_cases xs (x ∷ []) p h) [ inl there ↦ inl there | inr last ↦ inr (only x p last) ]),
-  (λ h. elim h [ inl there ↦ Contains-append_left xs (x ∷ []) p there | inr same ↦ Contains-append_right xs (x ∷ []) p (subst (λ y. Contains (x ∷ []) y) (sym same) (0, omega arith, refl)) ]),
+  (λ h. elim h [
+    | inl there ↦ Contains-append_left xs (x ∷ []) p there
+    | inr same ↦ Contains-append_right xs (x ∷ []) p
+        (subst (λ y. Contains (x ∷ []) y) (sym same) (0, omega arith, refl))
+  ]),
 )
   where
     only : {X : Type 0} (x p : X) → Contains (x ∷ []) p → p ≡ x
     only x p (zero, less, is) = sym is
     only x p (suc k, less, is) = absurd (omega arith)
 
-pub number_known : (n : ℕ) (numbers : List ℕ) (number : ℕ) → IsTrue (list_any (λ m. nat_eq n m) (insert_key nat_eq numbers number)) → IsTrue (list_any (λ m. nat_eq n m) numbers) ⊎ (n ≡ number)
+pub number_known : (n : ℕ) (numbers : List ℕ) (number : ℕ)
+    → IsTrue (list_any (λ m. nat_eq n m) (insert_key nat_eq numbers number))
+    → IsTrue (list_any (λ m. nat_eq n m) numbers) ⊎ (n ≡ number)
 number_known n numbers number holds = known (list_any (nat_eq number) numbers) holds
   where
     equal : (x : ℕ) → nat_eq n x ≡ true → n ≡ x
     equal x test = grind (arith, nat_tests)
 
-    known : (test : Bool) → IsTrue (list_any (λ m. nat_eq n m) (if test then numbers else numbers ++ number ∷ [])) → IsTrue (list_any (λ m. nat_eq n m) numbers) ⊎ (n ≡ number)
+    known : (test : Bool) → IsTrue (list_any (λ m. nat_eq n m) (if test then numbers else numbers ++ number ∷ []))
+        → IsTrue (list_any (λ m. nat_eq n m) numbers) ⊎ (n ≡ number)
     known true h = inl h
     known false h =
         let f = found (λ m. nat_eq n m) (numbers ++ number ∷ []) h in
@@ -152,13 +162,18 @@ take_full (suc n) (z ∷ zs) y full = ap (λ l. z ∷ l) (take_full n zs y (omeg
 one_behind : {X : Type 0} (xs ys : List X) (k : ℕ) (y : X) → slice_get ys k ≡ Some y → xs ++ take (k + 1) ys ≡ (xs ++ take k ys) ++ y ∷ []
 one_behind xs ys k y at = ap (λ l. xs ++ l) (take_part ys k y at) ∙ sym (append_assoc xs (take k ys) (y ∷ []))
 
-pub join_on : {X : Type 0} (xs ys : List X) (k : ℕ) (y : X) → slice_get ys k ≡ Some y → length (take 12 (xs ++ take k ys)) < 12 → take 12 (xs ++ take k ys) ++ y ∷ [] ≡ take 12 (xs ++ take (k + 1) ys)
+pub join_on : {X : Type 0} (xs ys : List X) (k : ℕ) (y : X)
+    → slice_get ys k ≡ Some y → length (take 12 (xs ++ take k ys)) < 12
+    → take 12 (xs ++ take k ys) ++ y ∷ [] ≡ take 12 (xs ++ take (k + 1) ys)
 join_on xs ys k y at few = take_more 12 (xs ++ take k ys) y few ∙ ap (λ l. take 12 l) (sym (one_behind xs ys k y at))
 
-pub join_full : {X : Type 0} (xs ys : List X) (k : ℕ) (y : X) → slice_get ys k ≡ Some y → 12 ≤ length (take 12 (xs ++ take k ys)) → take 12 (xs ++ take k ys) ≡ take 12 (xs ++ take (k + 1) ys)
+pub join_full : {X : Type 0} (xs ys : List X) (k : ℕ) (y : X)
+    → slice_get ys k ≡ Some y → 12 ≤ length (take 12 (xs ++ take k ys))
+    → take 12 (xs ++ take k ys) ≡ take 12 (xs ++ take (k + 1) ys)
 join_full xs ys k y at full = take_full 12 (xs ++ take k ys) y full ∙ ap (λ l. take 12 l) (sym (one_behind xs ys k y at))
 
-pub shorter : (marks : List Mark) (end test : Bool) → nat_le (length marks) 12 ≡ test → (both : PatternV) → both.marks ≡ take 12 marks → both.whole ≡ (end && test) → both ≡ shortened marks end
+pub shorter : (marks : List Mark) (end test : Bool) → nat_le (length marks) 12 ≡ test → (both : PatternV)
+    → both.marks ≡ take 12 marks → both.whole ≡ (end && test) → both ≡ shortened marks end
 shorter marks end true test both is whole =
     let few : length marks ≤ 12 = grind (arith, nat_tests) in
     let all = is ∙ take_whole marks 12 few in
@@ -176,7 +191,10 @@ shorter marks end false test both is whole =
     never true = refl
     never false = refl
 
-pub join_done : (first rest : PatternV) (both : PatternV) (k : ℕ) (few : Bool) → length rest.marks ≤ k → both.marks ≡ take 12 (first.marks ++ take k rest.marks) → both.whole ≡ (rest.whole && few) → few ≡ nat_le (length first.marks + length rest.marks) 12 → both ≡ shortened (first.marks ++ rest.marks) rest.whole
+pub join_done : (first rest : PatternV) (both : PatternV) (k : ℕ) (few : Bool)
+    → length rest.marks ≤ k → both.marks ≡ take 12 (first.marks ++ take k rest.marks)
+    → both.whole ≡ (rest.whole && few) → few ≡ nat_le (length first.marks + length rest.marks) 12
+    → both ≡ shortened (first.marks ++ rest.marks) rest.whole
 join_done first rest both k few long is whole test =
     let size = length-append first.marks rest.marks in
     let same : nat_le (length (first.marks ++ rest.marks)) 12 ≡ few = ap (λ n. nat_le n 12) size ∙ sym test in
@@ -187,7 +205,9 @@ join_done first rest both k few long is whole test =
 pub joins_none : (first p : PatternV) (rests : List PatternV) → JoinsOne first (take 0 rests) p → ⊥
 joins_none first p rests h = absurd (omega (arith, h.is_rest.1))
 
-pub joins_on : (first rest p : PatternV) (rests : List PatternV) (k : ℕ) → slice_get rests k ≡ Some rest → JoinsOne first (take (k + 1) rests) p ↔ (JoinsOne first (take k rests) p ⊎ (p ≡ shortened (first.marks ++ rest.marks) rest.whole))
+pub joins_on : (first rest p : PatternV) (rests : List PatternV) (k : ℕ) → slice_get rests k ≡ Some rest
+    → JoinsOne first (take (k + 1) rests) p ↔
+    (JoinsOne first (take k rests) p ⊎ (p ≡ shortened (first.marks ++ rest.marks) rest.whole))
 joins_on first rest p rests k at =
     let same = take_part rests k rest at in
     subst (λ l. JoinsOne first l p ↔ (JoinsOne first (take k rests) p ⊎ (p ≡ shortened (first.marks ++ rest.marks) rest.whole))) (sym same) (
@@ -204,7 +224,9 @@ joins_on first rest p rests k at =
 pub joins_whole : (first p : PatternV) (rests : List PatternV) (k : ℕ) → length rests ≤ k → JoinsOne first (take k rests) p ↔ JoinsOne first rests p
 joins_whole first p rests k long = subst (λ l. JoinsOne first l p ↔ JoinsOne first rests p) (sym (take_whole rests k long)) ((λ h. h), (λ h. h))
 
-pub joins_made : (made : List (List PatternV)) (first p : PatternV) (octet : ℕ) (rests : List PatternV) → first.whole ≡ true → slice_get made ((octet + length first.marks) % 8) ≡ Some rests → JoinsOne first rests p ↔ FirstMakes (MadeAt made) first octet p
+pub joins_made : (made : List (List PatternV)) (first p : PatternV) (octet : ℕ) (rests : List PatternV)
+    → first.whole ≡ true → slice_get made ((octet + length first.marks) % 8) ≡ Some rests
+    → JoinsOne first rests p ↔ FirstMakes (MadeAt made) first octet p
 joins_made made first p octet rests whole at = (
   (λ h. makes_whole h.rest whole (record { patterns = rests; at = at; is_made = h.is_rest }) h.joined),
   back,
@@ -228,7 +250,9 @@ module _ (others : ℕ → PatternV → Type 0) (octet : ℕ) where
   pub some_none : (firsts : List PatternV) (p : PatternV) → SomeMakes others (take 0 firsts) octet p → ⊥
   some_none firsts p h = absurd (omega (arith, h.is_first.1))
 
-  pub some_on : (firsts : List PatternV) (k : ℕ) (first p : PatternV) → slice_get firsts k ≡ Some first → SomeMakes others (take (k + 1) firsts) octet p ↔ (SomeMakes others (take k firsts) octet p ⊎ FirstMakes others first octet p)
+  pub some_on : (firsts : List PatternV) (k : ℕ) (first p : PatternV) → slice_get firsts k ≡ Some first
+      → SomeMakes others (take (k + 1) firsts) octet p ↔
+      (SomeMakes others (take k firsts) octet p ⊎ FirstMakes others first octet p)
   some_on firsts k first p at =
       let same = take_part firsts k first at in
       subst (λ l. SomeMakes others l octet p ↔ (SomeMakes others (take k firsts) octet p ⊎ FirstMakes others first octet p)) (sym same) (
@@ -237,12 +261,18 @@ module _ (others : ℕ → PatternV → Type 0) (octet : ℕ) where
           | inr last ↦ inr (subst (λ f. FirstMakes others f octet p) last h.makes)
         ]),
         (λ h. elim h [
-          | inl earlier ↦ record { first = earlier.first; is_first = (one_more (take k firsts) first earlier.first).1 (inl earlier.is_first); makes = earlier.makes }
+          | inl earlier ↦ record {
+            first = earlier.first;
+            is_first =
+                (one_more (take k firsts) first earlier.first).1 (inl earlier.is_first);
+            makes = earlier.makes;
+          }
           | inr last ↦ record { first = first; is_first = (one_more (take k firsts) first first).1 (inr refl); makes = last }
         ]),
       )
 
-  pub some_done : (firsts : List PatternV) (k : ℕ) (p : PatternV) → length firsts ≤ k → SomeMakes others (take k firsts) octet p ↔ SomeMakes others firsts octet p
+  pub some_done : (firsts : List PatternV) (k : ℕ) (p : PatternV)
+      → length firsts ≤ k → SomeMakes others (take k firsts) octet p ↔ SomeMakes others firsts octet p
   some_done firsts k p long = subst (λ l. SomeMakes others l octet p ↔ SomeMakes others firsts octet p) (sym (take_whole firsts k long)) ((λ h. h), (λ h. h))
 
 -- ---- from each octet position on
@@ -267,7 +297,8 @@ pushed_at [] x (suc o) y at = absurd (cc)
 pushed_at (z ∷ xs) x zero y at = earlier at
 pushed_at (z ∷ xs) x (suc o) y at = elim (pushed_at xs x o y at) [ earlier there ↦ earlier there | last end is ↦ last (ap suc end) is ]
 
-pub fill_on : (P : ℕ → PatternV → Type 0) (made : List (List PatternV)) (n : ℕ) (patterns : List PatternV) → FilledTo made P n → ((p : PatternV) → Contains patterns p ↔ P n p) → FilledTo (made ++ patterns ∷ []) P (n + 1)
+pub fill_on : (P : ℕ → PatternV → Type 0) (made : List (List PatternV)) (n : ℕ) (patterns : List PatternV)
+    → FilledTo made P n → ((p : PatternV) → Contains patterns p ↔ P n p) → FilledTo (made ++ patterns ∷ []) P (n + 1)
 fill_on P made n patterns filled are = record {
   count = length-append made (patterns ∷ []) ∙ ap (λ m. m + 1) filled.count;
   are = λ o ps at p. elim (pushed_at made patterns o ps at) [
@@ -283,7 +314,8 @@ fill_done P made n least most filled = record {
   eight = let count = filled.count in omega arith;
   are = λ o p low. (
     (λ h. (filled.are o h.patterns h.at p).0 h.is_made),
-    (λ h. let count = filled.count in let there = item_at made o (omega arith) in record { patterns = there.0; at = there.1; is_made = (filled.are o there.0 there.1 p).1 h }),
+    (λ h. let count = filled.count in let there = item_at made o (omega arith) in
+        record { patterns = there.0; at = there.1; is_made = (filled.are o there.0 there.1 p).1 h }),
   );
 }
 
@@ -299,12 +331,15 @@ as_made are same = record {
 in_octet : (n : ℕ) → n % 8 ≤ 7
 in_octet n = omega arith
 
-some_as : {P Q : ℕ → PatternV → Type 0} {firsts : List PatternV} {o : ℕ} {p : PatternV} → ((k : ℕ) (r : PatternV) → k ≤ 7 → P k r → Q k r) → SomeMakes P firsts o p → SomeMakes Q firsts o p
+some_as : {P Q : ℕ → PatternV → Type 0} {firsts : List PatternV} {o : ℕ} {p : PatternV}
+    → ((k : ℕ) (r : PatternV) → k ≤ 7 → P k r → Q k r) → SomeMakes P firsts o p → SomeMakes Q firsts o p
 some_as {P} {Q} {firsts} {o} {p} turn h = record { first = h.first; is_first = h.is_first; makes = first_as h.makes }
   where
     first_as : {first : PatternV} → FirstMakes P first o p → FirstMakes Q first o p
     first_as (makes_cut cut same) = makes_cut cut same
-    first_as {first} (makes_whole rest whole there same) = makes_whole rest whole (turn ((o + length first.marks) % 8) rest (in_octet (o + length first.marks)) there) same
+    first_as {first} (makes_whole rest whole there same) =
+        makes_whole rest whole (turn ((o + length first.marks) % 8) rest (in_octet (o + length first.marks)) there)
+        same
 
 module _ (c : List NodeV) where
   -- ---- parts one after another
@@ -326,7 +361,9 @@ module _ (c : List NodeV) where
       back : {o : ℕ} {p : PatternV} → PartsPatterns c [] o p → p ≡ record { marks = []; whole = true }
       back (parts_none same) = same
 
-  pub parts_on : (parts : List ℕ) (i : ℕ) (old new : List (List PatternV)) → AreMade old (PartsPatterns c parts) → AreMade new (λ o p. SomeMakes (MadeAt old) (patterns_at c i o) o p) → AreMade new (PartsPatterns c (i ∷ parts))
+  pub parts_on : (parts : List ℕ) (i : ℕ) (old new : List (List PatternV)) → AreMade old (PartsPatterns c parts)
+      → AreMade new (λ o p. SomeMakes (MadeAt old) (patterns_at c i o) o p)
+      → AreMade new (PartsPatterns c (i ∷ parts))
   parts_on parts i old new are made =
       as_made made (λ o p low. (
         (λ h. parts_to (some_as (λ k r small. (are.are k r small).0) h)),
@@ -347,7 +384,13 @@ module _ (c : List NodeV) where
   times_back {p = p} (times_cut m over there cut) = record { first = p; is_first = there; makes = makes_cut cut refl }
   times_back {n} {i} {o} (times_whole m over first others there whole rest same) =
       let count : m ≡ n = omega arith in
-      record { first = first; is_first = there; makes = makes_whole others whole (subst (λ k. TimesPatterns c k i ((o + length first.marks) % 8) others) count rest) same }
+      record {
+        first = first;
+        is_first = there;
+        makes =
+            makes_whole others whole (subst (λ k. TimesPatterns c k i ((o + length first.marks) % 8) others) count rest)
+            same;
+      }
 
   pub times_begin : (i : ℕ) (made : List (List PatternV)) → AreMade made (λ o p. p ≡ record { marks = []; whole = true }) → AreMade made (TimesPatterns c 0 i)
   times_begin i made are = as_made are (λ o p low. ((λ h. times_none refl h), back))
@@ -357,7 +400,8 @@ module _ (c : List NodeV) where
       back (times_cut m over there cut) = absurd (omega arith)
       back (times_whole m over first others there whole rest same) = absurd (omega arith)
 
-  pub times_on : (n i : ℕ) (old new : List (List PatternV)) → AreMade old (TimesPatterns c n i) → AreMade new (λ o p. SomeMakes (MadeAt old) (patterns_at c i o) o p) → AreMade new (TimesPatterns c (suc n) i)
+  pub times_on : (n i : ℕ) (old new : List (List PatternV)) → AreMade old (TimesPatterns c n i)
+      → AreMade new (λ o p. SomeMakes (MadeAt old) (patterns_at c i o) o p) → AreMade new (TimesPatterns c (suc n) i)
   times_on n i old new are made =
       as_made made (λ o p low. (
         (λ h. times_to (some_as (λ k r small. (are.are k r small).0) h)),
@@ -380,7 +424,9 @@ module _ (c : List NodeV) where
         (λ h. times_to (some_as (λ k r small. (later k r small).1) (times_back ((once o p low).1 h)))),
       )
 
-  pub times_stay : (n turn i : ℕ) (old new : List (List PatternV)) → turn ≤ n → AreMade old (TimesPatterns c turn i) → AreMade new (TimesPatterns c (suc turn) i) → ((o : ℕ) (p : PatternV) → MadeAt new o p → MadeAt old o p) → ((o : ℕ) (p : PatternV) → MadeAt old o p → MadeAt new o p) → AreMade old (TimesPatterns c n i)
+  pub times_stay : (n turn i : ℕ) (old new : List (List PatternV)) → turn ≤ n → AreMade old (TimesPatterns c turn i)
+      → AreMade new (TimesPatterns c (suc turn) i) → ((o : ℕ) (p : PatternV) → MadeAt new o p → MadeAt old o p)
+      → ((o : ℕ) (p : PatternV) → MadeAt old o p → MadeAt new o p) → AreMade old (TimesPatterns c n i)
   times_stay n turn i old new most are more to back =
       let once : Steady turn (suc turn) i = λ o p low. (
         (λ h. (are.are o p low).0 (to o p ((more.are o p low).1 h))),
@@ -448,7 +494,8 @@ only_it ys told none same = (
 
 -- ---- claimed patterns
 
-pub claimed_pattern : (at : Option PositionV) (k : ℕ) (p : PatternV) → IsTrue (is_some at) → IfSome at (λ q. slice_get q.patterns k ≡ Some p) → slice_get (patterns_of at) k ≡ Some p
+pub claimed_pattern : (at : Option PositionV) (k : ℕ) (p : PatternV) → IsTrue (is_some at)
+    → IfSome at (λ q. slice_get q.patterns k ≡ Some p) → slice_get (patterns_of at) k ≡ Some p
 claimed_pattern None k p there told = absurd (cc)
 claimed_pattern (Some q) k p there told = told
 

@@ -50,7 +50,9 @@ same_bit long short k x y begun at_x at_y =
     let there = ap (λ word. slice_get word k) begun.1 in
     cc
 
-pub words_meet : (p q : PatternV) (left right : List ℕ) (left_mark right_mark : Bool) → denotes p left left_mark ≡ true → denotes q right right_mark ≡ true → IsBegunBy left right ⊎ IsBegunBy right left → PatternsMeet p q
+pub words_meet : (p q : PatternV) (left right : List ℕ) (left_mark right_mark : Bool)
+    → denotes p left left_mark ≡ true → denotes q right right_mark ≡ true → IsBegunBy left right
+    ⊎ IsBegunBy right left → PatternsMeet p q
 words_meet p q left right left_mark right_mark of_p of_q begun =
     record {
       marks = λ k a b at_a at_b.
@@ -108,7 +110,8 @@ pub record MeetingWords (left right : List Mark) : Type 0 where
   pub right_stands : mark_bits right right_word ≡ true
   pub begun : IsBegunBy left_word right_word ⊎ IsBegunBy right_word left_word
 
-longer : (bit : ℕ) (left right : List ℕ) → IsBegunBy left right ⊎ IsBegunBy right left → IsBegunBy (bit ∷ left) (bit ∷ right) ⊎ IsBegunBy (bit ∷ right) (bit ∷ left)
+longer : (bit : ℕ) (left right : List ℕ) → IsBegunBy left right ⊎ IsBegunBy right left
+    → IsBegunBy (bit ∷ left) (bit ∷ right) ⊎ IsBegunBy (bit ∷ right) (bit ∷ left)
 longer bit left right (inl b) = inl (b.0, ap (λ l. bit ∷ l) b.1)
 longer bit left right (inr b) = inr (b.0, ap (λ l. bit ∷ l) b.1)
 

@@ -9,7 +9,8 @@ use Rattle.csn_desc.specs.Nodes.{parts_of}
 use Rattle.csn_look.proofs.Meaning.FollowFacts.{cuts}
 use Rattle.csn_claims.specs.Claims.{Claims}
 use Rattle.csn_claims.specs.Ends.{PartsEnd, ManyEnd, parts_end, parts_next}
-use Rattle.csn_claims.specs.Reached.{PartReached, reached_seq, reached_trunc, reached_choice, reached_window, reached_named, reached_times, reached_counted, reached_many}
+use Rattle.csn_claims.specs.Reached.{PartReached, reached_seq, reached_trunc, reached_choice, reached_window}
+use Rattle.csn_claims.specs.Reached.{reached_named, reached_times, reached_counted, reached_many}
 use Rattle.csn_good.specs.Octets.{has_octet, OctetsAre, OfSome, TurnBegins}
 use Rattle.csn_good.specs.Told.{PartsReach, EachReached, OrderReached}
 use Rattle.csn_good.proofs.SetArms.{many_small, times_small}
@@ -46,12 +47,14 @@ module _ (claims : Claims) where
   order_first i rest here h o low there = h i o o [] rest refl low there (parts_end refl)
 
   module _ (small : AreSmall claims) where
-    order_rest : (i : ℕ) (rest : List ℕ) (here next : List Bool) → LeadsOn claims i here next → OrderReached claims here (i ∷ rest) → OrderReached claims next rest
+    order_rest : (i : ℕ) (rest : List ℕ) (here next : List Bool)
+        → LeadsOn claims i here next → OrderReached claims here (i ∷ rest) → OrderReached claims next rest
     order_rest i rest here next leads h j from o before after is low there e =
         let old = (leads from low).0 there in
         h j old.octet o (i ∷ before) after (ap (λ l. i ∷ l) is) old.small old.there (parts_next from old.fact e)
 
-    order_both : (i : ℕ) (rest : List ℕ) (here next : List Bool) → LeadsOn claims i here next → HasAll i here → OrderReached claims next rest → OrderReached claims here (i ∷ rest)
+    order_both : (i : ℕ) (rest : List ℕ) (here next : List Bool) → LeadsOn claims i here next → HasAll i here
+        → OrderReached claims next rest → OrderReached claims here (i ∷ rest)
     order_both i rest here next leads all h j from o [] after is low there e =
         let part : j ≡ i = cc in
         let begin = only_none e in
@@ -66,7 +69,9 @@ module _ (claims : Claims) where
         let step = (leads m short).1 (record { octet = from; small = low; there = there; fact = subst (λ q. IsTrue (claims.ends q from m)) part ends }) in
         h j m o before after later short step others
 
-    pub order_on : (parts : List ℕ) (at i : ℕ) (from here next : List Bool) → slice_get parts at ≡ Some i → LeadsOn claims i here next → HasAll i here → OrderCarried parts at from here → OrderCarried parts (at + 1) from next
+    pub order_on : (parts : List ℕ) (at i : ℕ) (from here next : List Bool)
+        → slice_get parts at ≡ Some i → LeadsOn claims i here next → HasAll i here → OrderCarried parts at from here
+        → OrderCarried parts (at + 1) from next
     order_on parts at i from here next is leads all inv =
         let same = drop_part parts at i is in
         record {
@@ -77,7 +82,8 @@ module _ (claims : Claims) where
   pub order_begin : (parts : List ℕ) (from : List Bool) → OrderCarried parts 0 from from
   order_begin parts from = record { to = λ h. h; back = λ h. h }
 
-  pub order_not : (parts : List ℕ) (at i : ℕ) (from here : List Bool) → slice_get parts at ≡ Some i → OrderCarried parts at from here → OrderReached claims from parts → HasAll i here
+  pub order_not : (parts : List ℕ) (at i : ℕ) (from here : List Bool)
+      → slice_get parts at ≡ Some i → OrderCarried parts at from here → OrderReached claims from parts → HasAll i here
   order_not parts at i from here is inv h = order_first i (drop (at + 1) parts) here (subst (OrderReached claims here) (drop_part parts at i is) (inv.to h))
 
   pub order_done : (parts : List ℕ) (at : ℕ) (from here : List Bool) → length parts ≤ at → OrderCarried parts at from here → OrderReached claims from parts
@@ -118,7 +124,8 @@ module _ (claims : Claims) where
     choice_parts parts = (
       (λ h place i o at short there. let cut = cuts parts place i at in h i o o cut.before cut.after cut.is ((are o short).0 there) (reached_choice refl)),
       (λ h i from o before after is reached r.
-          subst (λ q. IsTrue (claims.reached i q)) (sym (of_choice r)) (h (length before) i from (part_at before i after is) (low from reached) (there_of from reached))),
+          subst (λ q. IsTrue (claims.reached i q)) (sym (of_choice r))
+          (h (length before) i from (part_at before i after is) (low from reached) (there_of from reached))),
     )
 
     of_window : {unit part : ℕ} {count : Count} {before : List ℕ} {i from o : ℕ} → PartReached claims (Window unit count part) before i from o → o ≡ from
@@ -132,7 +139,8 @@ module _ (claims : Claims) where
       (λ h o short there. h part o o [] [] refl ((are o short).0 there) (reached_window refl)),
       (λ h i from o before after is reached r.
           let one = one_part before after is in
-          subst (λ q. IsTrue (claims.reached q o)) (sym one) (subst (λ q. IsTrue (claims.reached part q)) (sym (of_window r)) (h from (low from reached) (there_of from reached)))),
+          subst (λ q. IsTrue (claims.reached q o)) (sym one) (subst (λ q. IsTrue (claims.reached part q))
+          (sym (of_window r)) (h from (low from reached) (there_of from reached)))),
     )
 
     pub named_parts : (label : List ℕ) (part : ℕ) → PartsReach claims k (Named label part) ↔ HasAll part begins
@@ -140,14 +148,17 @@ module _ (claims : Claims) where
       (λ h o short there. h part o o [] [] refl ((are o short).0 there) (reached_named refl)),
       (λ h i from o before after is reached r.
           let one = one_part before after is in
-          subst (λ q. IsTrue (claims.reached q o)) (sym one) (subst (λ q. IsTrue (claims.reached part q)) (sym (of_named r)) (h from (low from reached) (there_of from reached)))),
+          subst (λ q. IsTrue (claims.reached q o)) (sym one) (subst (λ q. IsTrue (claims.reached part q))
+          (sym (of_named r)) (h from (low from reached) (there_of from reached)))),
     )
 
     module _ (small : AreSmall claims) where
       of_many : {part i from o : ℕ} {before : List ℕ} → PartReached claims (Many part) before i from o → ManyEnd claims i from o
       of_many (reached_many h) = h
 
-      pub many_parts : (part : ℕ) (turns : List Bool) → OctetsAre turns (λ p. OfSome begins (λ o. ManyEnd claims part o p)) → PartsReach claims k (Many part) ↔ HasAll part turns
+      pub many_parts : (part : ℕ) (turns : List Bool)
+          → OctetsAre turns (λ p. OfSome begins (λ o. ManyEnd claims part o p))
+          → PartsReach claims k (Many part) ↔ HasAll part turns
       many_parts part turns ends = (
         (λ h o short there. let f = (ends o short).0 there in h part f.octet o [] [] refl ((are f.octet f.small).0 f.there) (reached_many f.fact)),
         (λ h i from o before after is reached r.
@@ -155,14 +166,18 @@ module _ (claims : Claims) where
             let begin = low from reached in
             let e = subst (λ q. ManyEnd claims q from o) one (of_many r) in
             let short = many_small claims small begin e in
-            subst (λ q. IsTrue (claims.reached q o)) (sym one) (h o short ((ends o short).1 (record { octet = from; small = begin; there = there_of from reached; fact = e })))),
+            subst (λ q. IsTrue (claims.reached q o)) (sym one)
+            (h o short ((ends o short).1
+            (record { octet = from; small = begin; there = there_of from reached; fact = e })))),
       )
 
-      of_times : {part i from o : ℕ} {before : List ℕ} (count : Count) → PartReached claims (Times count part) before i from o → TurnBegins claims count i from o
+      of_times : {part i from o : ℕ} {before : List ℕ} (count : Count)
+          → PartReached claims (Times count part) before i from o → TurnBegins claims count i from o
       of_times (Fixed n) (reached_times m less e) = record { times = m; less = less; ends = e }
       of_times (Counted m f c) (reached_counted e) = e
 
-      times_of : {part i from o : ℕ} {before : List ℕ} (count : Count) → TurnBegins claims count i from o → PartReached claims (Times count part) before i from o
+      times_of : {part i from o : ℕ} {before : List ℕ} (count : Count) → TurnBegins claims count i from o
+          → PartReached claims (Times count part) before i from o
       times_of (Fixed n) h = reached_times h.times h.less h.ends
       times_of (Counted m f c) h = reached_counted h
 
@@ -170,7 +185,9 @@ module _ (claims : Claims) where
       turn_low i o p (Fixed n) begin h = times_small claims small begin h.ends
       turn_low i o p (Counted m f c) begin h = many_small claims small begin h
 
-      pub times_parts : (count : Count) (part : ℕ) (turns : List Bool) → OctetsAre turns (λ p. OfSome begins (λ o. TurnBegins claims count part o p)) → PartsReach claims k (Times count part) ↔ HasAll part turns
+      pub times_parts : (count : Count) (part : ℕ) (turns : List Bool)
+          → OctetsAre turns (λ p. OfSome begins (λ o. TurnBegins claims count part o p))
+          → PartsReach claims k (Times count part) ↔ HasAll part turns
       times_parts count part turns ends = (
         (λ h o short there. let f = (ends o short).0 there in h part f.octet o [] [] refl ((are f.octet f.small).0 f.there) (times_of count f.fact)),
         (λ h i from o before after is reached r.
@@ -178,5 +195,7 @@ module _ (claims : Claims) where
             let begin = low from reached in
             let e = subst (λ q. TurnBegins claims count q from o) one (of_times count r) in
             let short = turn_low part from o count begin e in
-            subst (λ q. IsTrue (claims.reached q o)) (sym one) (h o short ((ends o short).1 (record { octet = from; small = begin; there = there_of from reached; fact = e })))),
+            subst (λ q. IsTrue (claims.reached q o)) (sym one)
+            (h o short ((ends o short).1
+            (record { octet = from; small = begin; there = there_of from reached; fact = e })))),
       )

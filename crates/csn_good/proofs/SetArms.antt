@@ -1,5 +1,6 @@
 -- What the equations of nullable and of first bits make of a node whose kind is known.
-use Rattle.std.proofs.Common.{◌≡◌, ℕ, zero, suc, ◌≤◌, ◌⊎◌, ◌↔◌, inl, inr, Bool, true, false, List, [], ◌∷◌, refl, sym, ◌∙◌, subst, arith, Option, Some, None, slice_get}
+use Rattle.std.proofs.Common.{◌≡◌, ℕ, zero, suc, ◌≤◌, ◌⊎◌, ◌↔◌, inl, inr, Bool, true, false, List, [], ◌∷◌, refl, sym}
+use Rattle.std.proofs.Common.{◌∙◌, subst, arith, Option, Some, None, slice_get}
 use Rattle.std.specs.Prelude.{IsTrue, ◌==◌, find, is_some}
 use Rattle.std.specs.List.{AllByRecursion}
 use Rattle.std.proofs.lemmas.Bool.Decides.{nat_tests}
@@ -16,9 +17,15 @@ use Rattle.csn_desc.proofs.BitFacts.{symbol_bit-le-one, IsBits-spare}
 use Rattle.csn_cert.specs.CertificateV.{NodeV, PositionV, IsPosition, IsNode, IsCertificate}
 use Rattle.csn_cert.specs.Growing.{claimed_of, claimed}
 use Rattle.csn_claims.specs.Claims.{Claims}
-use Rattle.csn_claims.specs.Nullable.{NodeNullable, AllNullable, nullable_field, nullable_times, nullable_no_times, nullable_window, nullable_seq, nullable_choice, nullable_named}
-use Rattle.csn_claims.specs.Ends.{NodeEnds, PartsEnd, ManyEnd, LeadEnd, TimesEnd, ends_lits, ends_spare, ends_null, ends_pad, ends_rest, ends_field, ends_window, ends_seq, ends_choice, ends_times, ends_counted, ends_many, ends_trunc, ends_named, parts_end, parts_next, times_end, times_next, many_end, many_next, lead_end, lead_next}
-use Rattle.csn_claims.specs.Starts.{NodeStarts, PartsStart, starts_lits, starts_spare, starts_pad, starts_field, starts_rest, starts_seq, starts_trunc, starts_choice, starts_times, starts_many, starts_window, starts_named, starts_here, starts_later}
+use Rattle.csn_claims.specs.Nullable.{NodeNullable, AllNullable, nullable_field, nullable_times, nullable_no_times}
+use Rattle.csn_claims.specs.Nullable.{nullable_window, nullable_seq, nullable_choice, nullable_named}
+use Rattle.csn_claims.specs.Ends.{NodeEnds, PartsEnd, ManyEnd, LeadEnd, TimesEnd, ends_lits, ends_spare, ends_null}
+use Rattle.csn_claims.specs.Ends.{ends_pad, ends_rest, ends_field, ends_window, ends_seq, ends_choice, ends_times}
+use Rattle.csn_claims.specs.Ends.{ends_counted, ends_many, ends_trunc, ends_named, parts_end, parts_next, times_end}
+use Rattle.csn_claims.specs.Ends.{times_next, many_end, many_next, lead_end, lead_next}
+use Rattle.csn_claims.specs.Starts.{NodeStarts, PartsStart, starts_lits, starts_spare, starts_pad, starts_field}
+use Rattle.csn_claims.specs.Starts.{starts_rest, starts_seq, starts_trunc, starts_choice, starts_times, starts_many}
+use Rattle.csn_claims.specs.Starts.{starts_window, starts_named, starts_here, starts_later}
 use Rattle.csn_good.specs.ClaimedSets.{starts_with, claims_of}
 use Rattle.csn_good.specs.Told.{MayBeNone, SomeNullable, SomeStarts, LiteralStarts}
 use Rattle.csn_good.proofs.Digits.{digit_within}
@@ -26,7 +33,9 @@ use Rattle.csn_good.proofs.EndsTold.{AreSmall}
 
 -- ---- octet positions and bits that a certificate may claim
 
-one_found : (p : PositionV) (positions : List PositionV) (o : ℕ) (test : Bool) → (p.octet == o) ≡ test → p.octet ≤ 7 → (IsTrue (is_some (find (λ q. q.octet == o) positions)) → o ≤ 7) → IsTrue (is_some (find (λ q. q.octet == o) (p ∷ positions))) → o ≤ 7
+one_found : (p : PositionV) (positions : List PositionV) (o : ℕ) (test : Bool) → (p.octet == o) ≡ test → p.octet ≤ 7
+    → (IsTrue (is_some (find (λ q. q.octet == o) positions)) → o ≤ 7)
+    → IsTrue (is_some (find (λ q. q.octet == o) (p ∷ positions))) → o ≤ 7
 one_found p positions o true same low later there = let is : p.octet ≡ o = grind (arith, nat_tests) in omega arith
 one_found p positions o false differs low later there = later (rw differs at there)
 

@@ -16,7 +16,8 @@ module _ (claims : Claims) where
   all_split : {i : ℕ} {rest : List ℕ} → AllNullable claims (i ∷ rest) → IsTrue (claims.nullable i) × AllNullable claims rest
   all_split (all_next h others) = (h, others)
 
-  pub nullable_on : (parts : List ℕ) (at i : ℕ) → slice_get parts at ≡ Some i → IsTrue (claims.nullable i) → Carried (AllNullable claims) parts at → Carried (AllNullable claims) parts (at + 1)
+  pub nullable_on : (parts : List ℕ) (at i : ℕ) → slice_get parts at ≡ Some i → IsTrue (claims.nullable i)
+      → Carried (AllNullable claims) parts at → Carried (AllNullable claims) parts (at + 1)
   nullable_on parts at i is there inv =
       let same = drop_part parts at i is in
       record {
@@ -24,7 +25,8 @@ module _ (claims : Claims) where
         back = λ h. inv.back (subst (AllNullable claims) (sym same) (all_next there h));
       }
 
-  pub nullable_not : (parts : List ℕ) (at i : ℕ) → slice_get parts at ≡ Some i → claims.nullable i ≡ false → Carried (AllNullable claims) parts at → AllNullable claims parts → ⊥
+  pub nullable_not : (parts : List ℕ) (at i : ℕ) → slice_get parts at ≡ Some i → claims.nullable i ≡ false
+      → Carried (AllNullable claims) parts at → AllNullable claims parts → ⊥
   nullable_not parts at i is wrong inv h =
       let there = (all_split (subst (AllNullable claims) (drop_part parts at i is) (inv.to h))).0 in cc
 
@@ -48,16 +50,21 @@ module _ (claims : Claims) where
       by_bit o (suc bit) low small = ((λ h. absurd ((ones o low).0 h)), (λ h. absurd (none_starts h)))
 
   module _ (small : AreSmall claims) where
-    starts_of : (tail : Tail) (parts : List ℕ) (i o bit : ℕ) → bit ≤ 1 → TailIs claims tail parts → StartsBehind claims tail i o bit → PartsStart claims (i ∷ parts) o bit
+    starts_of : (tail : Tail) (parts : List ℕ) (i o bit : ℕ) → bit ≤ 1 → TailIs claims tail parts
+        → StartsBehind claims tail i o bit → PartsStart claims (i ∷ parts) o bit
     starts_of tail parts i o bit one is (behind_own h) = starts_here h
     starts_of tail parts i o bit one is (behind_later nullable end low ends h) = starts_later end nullable ends ((is.starts end bit low one).0 h)
 
-    behind_of : (tail : Tail) (parts : List ℕ) (i o bit : ℕ) → bit ≤ 1 → TailIs claims tail parts → PartsStart claims (i ∷ parts) o bit → StartsBehind claims tail i o bit
+    behind_of : (tail : Tail) (parts : List ℕ) (i o bit : ℕ) → bit ≤ 1 → TailIs claims tail parts
+        → PartsStart claims (i ∷ parts) o bit → StartsBehind claims tail i o bit
     behind_of tail parts i o bit one is (starts_here h) = behind_own h
     behind_of tail parts i o bit one is (starts_later end nullable ends h) =
         let low = small i o end ends in behind_later nullable end low ends ((is.starts end bit low one).1 h)
 
-    pub tail_behind : (tail new : Tail) (parts : List ℕ) (i : ℕ) → new.nullable ≡ (tail.nullable && claims.nullable i) → OctetsAre new.zero.has (λ o. StartsBehind claims tail i o 0) → OctetsAre new.one.has (λ o. StartsBehind claims tail i o 1) → TailIs claims tail parts → TailIs claims new (i ∷ parts)
+    pub tail_behind : (tail new : Tail) (parts : List ℕ) (i : ℕ) → new.nullable ≡ (tail.nullable && claims.nullable i)
+        → OctetsAre new.zero.has (λ o. StartsBehind claims tail i o 0)
+        → OctetsAre new.one.has (λ o. StartsBehind claims tail i o 1)
+        → TailIs claims tail parts → TailIs claims new (i ∷ parts)
     tail_behind tail new parts i is zeros ones old =
         record {
           nullable = (
@@ -69,5 +76,8 @@ module _ (claims : Claims) where
       where
         by_bit : (o bit : ℕ) → o ≤ 7 → bit ≤ 1 → IsTrue (tail_has new o bit) ↔ PartsStart claims (i ∷ parts) o bit
         by_bit o zero low one = ((λ h. starts_of tail parts i o 0 one old ((zeros o low).0 h)), (λ h. (zeros o low).1 (behind_of tail parts i o 0 one old h)))
-        by_bit o (suc zero) low one = ((λ h. starts_of tail parts i o 1 one old ((ones o low).0 h)), (λ h. (ones o low).1 (behind_of tail parts i o 1 one old h)))
+        by_bit o (suc zero) low one = (
+          (λ h. starts_of tail parts i o 1 one old ((ones o low).0 h)),
+          (λ h. (ones o low).1 (behind_of tail parts i o 1 one old h)),
+        )
         by_bit o (suc (suc bit)) low one = absurd (omega arith)

@@ -6,7 +6,8 @@ ghost use Rattle.csn_claims.specs.Conflicts.{IsNull};
 ghost use Rattle.csn_good.specs.ClaimedSets.{claims_of, patterns_at};
 ghost use Rattle.csn_good.specs.Good.{KeepsApart};
 ghost use Rattle.csn_good.specs.Octets.{has_octet, PartsWithin, NodeWithin};
-ghost use Rattle.csn_good.specs.Apart.{PatternsMeet, SomeMeets, PartsMeet, HasEmpty, IsFirmNode, Overlaps, ClashesAt, Clashes, TurnsClash, BitBehind, AreApart, IsApart, EachApart};
+ghost use Rattle.csn_good.specs.Apart.{PatternsMeet, SomeMeets, PartsMeet, HasEmpty, IsFirmNode, Overlaps, ClashesAt};
+ghost use Rattle.csn_good.specs.Apart.{Clashes, TurnsClash, BitBehind, AreApart, IsApart, EachApart};
 
 use crate::bit_by_bit::{lists_meet, marks_meet};
 use crate::claims::{followed_by, may_end, nullable, starts_with};

@@ -75,7 +75,8 @@ fn broken_rule(
 pub fn check_certificate(alloc: Global, desc: &Desc, c: &Certificate) -> Result<Checked, NoMemory>
     ensures proved { IfOk result (λ checked. (checked ≡ Checked.Proved) ↔ Good desc.now c.now) }
     ensures unproved { (rule node : ℕ) → IfOk result (λ checked. checked ≡ Checked.Unproved rule node → FirstFault desc.now c.now rule node) }
-    ensures one_tree { IfOk result (λ checked. checked ≡ Checked.Proved → (b : List ℕ) (t u : TreeV) → NMeans desc.now 0 0 [] b t → NMeans desc.now 0 0 [] b u → t ≡ u) }
+    ensures one_tree { IfOk result (λ checked. checked ≡ Checked.Proved → (b : List ℕ) (t u : TreeV)
+        → NMeans desc.now 0 0 [] b t → NMeans desc.now 0 0 [] b u → t ≡ u) }
 {
     good_leaves_one_tree();
     let claimed = c.len();

@@ -80,7 +80,8 @@ fn has_wanted_at(c: &Certificate, k: u16, part: u16, around: &Around, octet: u8)
     requires node { k < length c.now }
     requires part { part < length c.now }
     requires octet { octet ≤ 7 }
-    ensures { IsTrue result ↔ ((s : ℕ) → s ≤ 2 → Wants (claims_of c.now) k part around.now octet s → IsTrue ((claims_of c.now).follow part octet (sign_of s))) }
+    ensures { IsTrue result ↔ ((s : ℕ) → s ≤ 2 → Wants (claims_of c.now) k part around.now octet s → IsTrue
+        ((claims_of c.now).follow part octet (sign_of s))) }
 {
     for sign in 0..3 {
         if wants(c, k, part, around, octet, sign) && !follows(c, part, octet, sign) {

@@ -1,6 +1,7 @@
 //! The patterns that the equations make.
 
-ghost use Rattle.std.specs.Prelude.{◌≡◌, ◌<◌, ◌≤◌, ◌+◌, ◌-◌, ◌%◌, ◌++◌, ◌⊎◌, ◌↔◌, ◌∷◌, ℕ, [], List, true, length, slice_get, IsTrue, IsSome, Contains, Some, OnOk, IfOk, IfSome};
+ghost use Rattle.std.specs.Prelude.{◌≡◌, ◌<◌, ◌≤◌, ◌+◌, ◌-◌, ◌%◌, ◌++◌, ◌⊎◌, ◌↔◌, ◌∷◌, ℕ, [], List, true, length};
+ghost use Rattle.std.specs.Prelude.{slice_get, IsTrue, IsSome, Contains, Some, OnOk, IfOk, IfSome};
 ghost use Rattle.csn_cert.specs.PatternV.{PatternV};
 ghost use Rattle.csn_cert.specs.CertificateV.{IsPattern};
 ghost use Rattle.csn_cert.specs.Growing.{claimed};

@@ -154,8 +154,10 @@ pub(crate) fn through_fewer(c: &Certificate, i: u16, n: u32, from: &Octets) -> O
 /// One octet position more that node `i` leads to from these.
 fn one_more(c: &Certificate, i: u16, from: &Octets) -> Option<u8>
     requires { i < length c.now }
-    ensures some { IfSome result (λ end. (end ≤ 7) × (has_octet from.now.has end ≡ false) × OfSome from.now.has (λ o. IsTrue ((claims_of c.now).ends i o end))) }
-    ensures none { IfNone result ((end : ℕ) → end ≤ 7 → OfSome from.now.has (λ o. IsTrue ((claims_of c.now).ends i o end)) → IsTrue (has_octet from.now.has end)) }
+    ensures some { IfSome result (λ end. (end ≤ 7) × (has_octet from.now.has end ≡ false)
+        × OfSome from.now.has (λ o. IsTrue ((claims_of c.now).ends i o end))) }
+    ensures none { IfNone result ((end : ℕ) → end ≤ 7 → OfSome from.now.has
+        (λ o. IsTrue ((claims_of c.now).ends i o end)) → IsTrue (has_octet from.now.has end)) }
 {
     for end in 0..8 {
         if !from.contains(end) && leads_to(c, i, from, end) {

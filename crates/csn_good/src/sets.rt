@@ -188,7 +188,8 @@ fn has_starts(desc: &Desc, c: &Certificate, i: u16, node: &Node, octet: u8) -> b
     requires node { i < length c.now }
     requires octet { octet ≤ 7 }
     requires parts { NodeWithin node.now (length c.now) }
-    ensures { IsTrue result ↔ ((bit : ℕ) → bit ≤ 1 → NodeStarts desc.now (claims_of c.now) node.now octet bit → IsTrue ((claims_of c.now).starts i octet bit)) }
+    ensures { IsTrue result ↔ ((bit : ℕ) → bit ≤ 1 → NodeStarts desc.now (claims_of c.now) node.now octet bit → IsTrue
+        ((claims_of c.now).starts i octet bit)) }
 {
     for bit in 0..2 {
         if may_start(desc, c, node, octet, bit) && !starts_with(c, i, octet, bit) {

@@ -16,7 +16,10 @@ use Rattle.csn_grammar.specs.declared.reader.body.Mode.{Mode}
 use Rattle.csn_grammar.specs.declared.reader.body.Mode.TheVariants.{Side, Less, Name, Base, Done, Slashes, Exponent as In}
 use Rattle.csn_grammar.specs.declared.reader.progress.Terms.{Terms}
 use Rattle.csn_grammar.specs.declared.reader.progress.Progress.{Progress}
-use Rattle.csn_grammar.specs.declared.reader.progress.Progress.TheVariants.{Bracket, Star, StarBracket, Number, Summand, Factor, Before, Val, ValBracket, ValWords, Product, FactorBehind, SummandBehind, Whole}
+use Rattle.csn_grammar.specs.declared.reader.progress.Progress.TheVariants.{Bracket, Star, StarBracket, Number}
+use Rattle.csn_grammar.specs.declared.reader.progress.Progress.TheVariants.{Summand, Factor, Before, Val, ValBracket}
+use Rattle.csn_grammar.specs.declared.reader.progress.Progress.TheVariants.{ValWords, Product, FactorBehind}
+use Rattle.csn_grammar.specs.declared.reader.progress.Progress.TheVariants.{SummandBehind, Whole}
 use Rattle.csn_grammar.specs.declared.reader.state.State.{State}
 use Rattle.csn_grammar.specs.declared.reader.state.State.TheVariants as state
 use Rattle.csn_grammar.specs.declared.reader.state.Reader.{Reader}
@@ -91,7 +94,12 @@ module _ (rules : RulesV) (begin : ℕ) (title : List ℕ) where
   base_lives : (frames : List Frame) (level : Level) (x : ExprV) → ((y : ExprV) → Led (λ k s n w. close frames y k n)) → Alive frames level (Base x)
   base_lives frames level x close_all =
       let side = side_lives frames level.branches level.error level.items level.joint x close_all in
-      record { ts = side.ts; out = side.out; comes = side_to_base rules begin title frames level x side.ts side.out (may_follow x side.ts side.free) side.leads }
+      record {
+        ts = side.ts;
+        out = side.out;
+        comes = side_to_base rules begin title frames level x side.ts side.out
+            (may_follow x side.ts side.free) side.leads;
+      }
 
   frame_closes : (frames : List Frame) (level : Level) (st : ℕ) (o : Opening) (y : ExprV)
       → ((y : ExprV) → Led (λ k s n w. close frames y k n)) → Led (λ k s n w. close_in frames level st o y k n)
@@ -145,7 +153,12 @@ module _ (rules : RulesV) (begin : ℕ) (title : List ℕ) where
   name_lives : (frames : List Frame) (level : Level) (st : ℕ) (ws : List ℕ) → Alive frames level (Name st ws)
   name_lives frames level st ws =
       let base = base_lives frames level (expr st 0 (name ws)) (closes frames) in
-      record { ts = sign kind.Greater ∷ base.ts; out = base.out; comes = greater_comes rules begin title frames level st 0 0 ws [] base.ts base.out base.comes }
+      record {
+        ts = sign kind.Greater ∷ base.ts;
+        out = base.out;
+        comes =
+            greater_comes rules begin title frames level st 0 0 ws [] base.ts base.out base.comes;
+      }
 
   less_lives : (frames : List Frame) (level : Level) (st : ℕ) → Alive frames level (Less st)
   unfolding body_step first_word
@@ -170,7 +183,8 @@ module _ (rules : RulesV) (begin : ℕ) (title : List ℕ) where
   number_lives : (frames : List Frame) (level : Level) (x : ExprV) (n : ℕ) → Alive frames level (In x (Number n))
   unfolding body_step after_exponent
   number_lives frames level x n =
-      let done = done_lives frames level (power_of x 0 (exponent.Number n)) in record { ts = sign kind.ParenRight ∷ done.ts; out = done.out; comes = done.comes }
+      let done = done_lives frames level (power_of x 0 (exponent.Number n)) in
+      record { ts = sign kind.ParenRight ∷ done.ts; out = done.out; comes = done.comes }
 
   product_lives : (frames : List Frame) (level : Level) (x : ExprV) (t : Terms) (l : List ℕ) → Alive frames level (In x (Product t l))
   unfolding body_step after_exponent

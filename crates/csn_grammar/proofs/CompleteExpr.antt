@@ -1,5 +1,6 @@
 -- The reader takes every expression and all rules.
-use Rattle.std.proofs.Common.{◌≡◌, ℕ, suc, ◌<◌, Bool, true, false, List, [], ◌∷◌, ◌++◌, length, Some, None, refl, sym, ap, ◌∙◌, subst, arith, append_assoc, lt-ltb}
+use Rattle.std.proofs.Common.{◌≡◌, ℕ, suc, ◌<◌, Bool, true, false, List, [], ◌∷◌, ◌++◌, length, Some, None, refl, sym}
+use Rattle.std.proofs.Common.{ap, ◌∙◌, subst, arith, append_assoc, lt-ltb}
 use Rattle.csn_lexer.specs.declared.token.TokenKind.{TokenKind}
 use Rattle.csn_lexer.specs.declared.token.TokenKind.TheVariants as kind
 use Rattle.csn_grammar.specs.declared.expr.TheConstants.{MOST_OPEN}
@@ -9,14 +10,21 @@ use Rattle.csn_grammar.specs.declared.reader.body.Joint.TheVariants.{Alone, Wind
 use Rattle.csn_grammar.specs.declared.reader.body.Level.{Level}
 use Rattle.csn_grammar.specs.declared.reader.body.Opening.TheVariants.{Brace, Label}
 use Rattle.csn_grammar.specs.declared.reader.body.Mode.TheVariants.{Side, Less, Name, Base, Done, Slashes}
-use Rattle.csn_grammar.specs.ExprV.{ExprV, expr, FormV, lits, null, bit, octet, name, labelled, group, ExprsV, no_item, item, item_list, BranchesV, no_branch, branch, BranchV, branch_list}
+use Rattle.csn_grammar.specs.ExprV.{ExprV, expr, FormV, lits, null, bit, octet, name, labelled, group, ExprsV}
+use Rattle.csn_grammar.specs.ExprV.{no_item, item, item_list, BranchesV, no_branch, branch, BranchV, branch_list}
 use Rattle.csn_grammar.specs.RulesV.{RulesV}
 use Rattle.csn_grammar.specs.TokenV.{TokenV, token}
 use Rattle.csn_grammar.specs.Counts.{IsName, last_word, more_words}
-use Rattle.csn_grammar.specs.Grammar.{NotSlashes, components_of, IsBase, bit_base, octet_base, name_base, labelled_base, group_base, IsSide, lits_side, null_side, base_side, power_side, cut_side, IsWindow, side_window, both_window, IsItem, window_item, sends_item, AreItems, last_item, more_items, IsSeq, one_item, items, cut_items, AreBranches, last_branch, last_error, more_branches, more_errors, IsExpr, one_seq, branches}
+use Rattle.csn_grammar.specs.Grammar.{NotSlashes, components_of, IsBase, bit_base, octet_base, name_base}
+use Rattle.csn_grammar.specs.Grammar.{labelled_base, group_base, IsSide, lits_side, null_side, base_side, power_side}
+use Rattle.csn_grammar.specs.Grammar.{cut_side, IsWindow, side_window, both_window, IsItem, window_item, sends_item}
+use Rattle.csn_grammar.specs.Grammar.{AreItems, last_item, more_items, IsSeq, one_item, items, cut_items, AreBranches}
+use Rattle.csn_grammar.specs.Grammar.{last_branch, last_error, more_branches, more_errors, IsExpr, one_seq, branches}
 use Rattle.csn_grammar.specs.reader.Spellings.{word_form}
 use Rattle.csn_grammar.specs.reader.Building.{end_of, seq_with, cut_with, choice_with, both_of, sends_of, power_of}
-use Rattle.csn_grammar.specs.reader.BodySteps.{fresh, with_joint, word_mode, open_frame, begin_side, close, after_seq, after_item, after_window, after_joint, after_side, after_slashes, after_base, after_words, first_word, body_step}
+use Rattle.csn_grammar.specs.reader.BodySteps.{fresh, with_joint, word_mode, open_frame, begin_side, close, after_seq}
+use Rattle.csn_grammar.specs.reader.BodySteps.{after_item, after_window, after_joint, after_side, after_slashes}
+use Rattle.csn_grammar.specs.reader.BodySteps.{after_base, after_words, first_word, body_step}
 use Rattle.csn_grammar.proofs.Run.{level_of, Step, Leads, Comes}
 use Rattle.csn_grammar.proofs.Members.{whole_seq, whole_cut, items_begin, no_items, no_branches, whole_choice}
 use Rattle.csn_grammar.proofs.Complete.{close_none, no_lead, close_to_seq, seq_to_item, side_to_item, item_to_window, window_to_side}
@@ -86,13 +94,15 @@ module _ (rules : RulesV) (begin : ℕ) (title : List ℕ) where
       → Leads rules begin title (after_window frames (level_of bs e xs Alone) (both_of l x)) ts out
       → Leads rules begin title (after_side frames (level_of bs e xs (Window l)) x) ts out
   unfolding after_side after_joint
-  both_leads frames bs e xs l x = leads_as (after_window frames (level_of bs e xs Alone) (both_of l x)) (after_side frames (level_of bs e xs (Window l)) x) (λ k s n w. refl)
+  both_leads frames bs e xs l x = leads_as (after_window frames (level_of bs e xs Alone) (both_of l x))
+      (after_side frames (level_of bs e xs (Window l)) x) (λ k s n w. refl)
 
   pub sends_leads : (frames : List Frame) (bs : List BranchV) (e : Bool) (xs : List ExprV) (l x : ExprV) (ts : List TokenV) (out : RulesV)
       → Leads rules begin title (after_item frames (level_of bs e xs Alone) (sends_of l x)) ts out
       → Leads rules begin title (after_side frames (level_of bs e xs (Sends l)) x) ts out
   unfolding after_side after_joint
-  sends_leads frames bs e xs l x = leads_as (after_item frames (level_of bs e xs Alone) (sends_of l x)) (after_side frames (level_of bs e xs (Sends l)) x) (λ k s n w. refl)
+  sends_leads frames bs e xs l x = leads_as (after_item frames (level_of bs e xs Alone) (sends_of l x))
+      (after_side frames (level_of bs e xs (Sends l)) x) (λ k s n w. refl)
 
   slashes_lead : (frames : List Frame) (bs : List BranchV) (e : Bool) (q : ExprV) (ts : List TokenV) (out : RulesV)
       → Leads rules begin title (λ k s n w. after_seq frames (level_of bs e [] Alone) q k n) ts out
@@ -131,7 +141,8 @@ module _ (rules : RulesV) (begin : ℕ) (title : List ℕ) where
 
   close_brace : (frames : List Frame) (level : Level) (st s n : ℕ) (x : ExprV) (w : List ℕ) (ts : List TokenV) (out : RulesV)
       → Comes rules begin title frames level (Base (expr st n (group x))) ts out
-      → Leads rules begin title (λ k s n w. close (record { start = st; opening = Brace; level = level } ∷ frames) x k n) (token kind.BraceRight s n w ∷ ts) out
+      → Leads rules begin title (λ k s n w. close (record { start = st; opening = Brace; level = level } ∷ frames)
+      x k n) (token kind.BraceRight s n w ∷ ts) out
   unfolding close
   close_brace frames level st s n x w ts out h = h
 
@@ -205,7 +216,8 @@ module _ (rules : RulesV) (begin : ℕ) (title : List ℕ) where
         word_comes frames level octet s n w _ out (ap word_form e) (subst (λ ts. Comes rules begin title frames level (Base (expr s n octet)) ts out) r h)
     base_comes frames level out deep (name_base {s = s} {n = n} {s1 = s1} {n1 = n1} {w = w} {w1 = w1} {l = l} is) h =
         less_comes frames level s n w _ out (name_comes frames level s out is (greater_comes frames level s s1 n1 l w1 _ out h))
-    base_comes {d} frames level out deep (labelled_base {s = s} {n = n} {s1 = s1} {n1 = n1} {s2 = s2} {n2 = n2} {w = w} {w1 = w1} {w2 = w2} {l = l} {x = x} limit is inner) h =
+    base_comes {d} frames level out deep (labelled_base {s = s} {n = n} {s1 = s1} {n1 = n1} {s2 = s2} {n2 = n2}
+        {w = w} {w1 = w1} {w2 = w2} {l = l} {x = x} limit is inner) h =
         less_comes frames level s n w _ out (name_comes frames level s out is (label_comes frames level s s1 n1 l w1 _ out deep limit
         (expr_comes (record { start = s; opening = Label l; level = level } ∷ frames) out (ap suc deep) inner
         (close_label frames level s s2 n2 l x w2 _ out h))))
@@ -228,7 +240,8 @@ module _ (rules : RulesV) (begin : ℕ) (title : List ℕ) where
     side_comes frames level out deep (power_side {s = s} {n = n} {n1 = n1} {f = f} {e = e} is raised) h =
         base_comes frames level out deep is
         (exponent_from rules begin title frames level (expr s n f) out raised (leads_done frames level (power_of (expr s n f) n1 e) _ out h))
-    side_comes frames level out deep (cut_side {s = s} {n = n} {s1 = s1} {n1 = n1} {s2 = s2} {n2 = n2} {w = w} {w1 = w1} {w2 = w2} {x = x} {rest = rest} limit inner) h =
+    side_comes frames level out deep (cut_side {s = s} {n = n} {s1 = s1} {n1 = n1} {s2 = s2} {n2 = n2} {w = w}
+        {w1 = w1} {w2 = w2} {x = x} {rest = rest} limit inner) h =
         brace_comes frames level s n w _ out deep limit
         (expr_comes (record { start = s; opening = Brace; level = level } ∷ frames) out (ap suc deep) inner
         (close_brace frames level s s1 n1 x w1 (token kind.SlashSlash s2 n2 w2 ∷ rest) out

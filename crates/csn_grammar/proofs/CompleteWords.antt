@@ -13,12 +13,17 @@ use Rattle.csn_grammar.specs.declared.reader.body.Level.{Level}
 use Rattle.csn_grammar.specs.declared.reader.body.Mode.TheVariants.{Base, Done, Exponent as In}
 use Rattle.csn_grammar.specs.declared.reader.progress.Terms.{Terms}
 use Rattle.csn_grammar.specs.declared.reader.progress.Progress.{Progress}
-use Rattle.csn_grammar.specs.declared.reader.progress.Progress.TheVariants.{Bracket, StarBracket, Number, Summand, Before, ValBracket, ValWords, Product, SummandBehind}
+use Rattle.csn_grammar.specs.declared.reader.progress.Progress.TheVariants.{Bracket, StarBracket, Number, Summand}
+use Rattle.csn_grammar.specs.declared.reader.progress.Progress.TheVariants.{Before, ValBracket, ValWords, Product}
+use Rattle.csn_grammar.specs.declared.reader.progress.Progress.TheVariants.{SummandBehind}
 use Rattle.csn_grammar.specs.ExprV.{ExprV, lits}
 use Rattle.csn_grammar.specs.RulesV.{RulesV}
 use Rattle.csn_grammar.specs.TokenV.{TokenV, token}
 use Rattle.csn_grammar.specs.Writing.{letter_of, IsLits, IsNumber}
-use Rattle.csn_grammar.specs.Counts.{IsName, last_word, more_words, IsVal, val, IsProduct, alone, factor_before, factor_behind, IsCount, number, product, summand_behind, summand_before, IsExponent, count, times_number, times_val, times_count, any, any_star, any_stars}
+use Rattle.csn_grammar.specs.Counts.{IsName, last_word, more_words, IsVal, val, IsProduct, alone, factor_before}
+use Rattle.csn_grammar.specs.Counts.{factor_behind, IsCount, number, product, summand_behind, summand_before}
+use Rattle.csn_grammar.specs.Counts.{IsExponent, count, times_number, times_val, times_count, any, any_star}
+use Rattle.csn_grammar.specs.Counts.{any_stars}
 use Rattle.csn_grammar.specs.reader.Spellings.{number_of, symbol_of, run_of, word_form}
 use Rattle.csn_grammar.specs.reader.Building.{power_of}
 use Rattle.csn_grammar.specs.reader.BodySteps.{goes, after_base, after_exponent, body_step}

@@ -15,9 +15,19 @@ use Rattle.csn_grammar.specs.RulesV.{RulesV}
 use Rattle.csn_grammar.specs.Forms.{unit_of}
 use Rattle.csn_grammar.specs.Environment.{Env, value_of, count_of}
 use Rattle.csn_grammar.specs.Void.{Void, SomeVoid, void_group, void_labelled, void_seq, void_choice, void_here, void_later}
-use Rattle.csn_grammar.specs.Meaning.{means_lits, means_null, means_bit, means_octet, means_field, means_rest, means_spare_bit, means_spare_low, means_padding, means_seq, means_times, means_many, means_cut_all, items_end, times_end, many_end}
-use Rattle.csn_grammar.specs.Follow.{Follow, RuleFollows, follows_whole, follows_leaf, follows_seq, follows_choice, follows_times, follows_window, follows_labelled, follows_name, follows_group, follows_received, follows_sent, items_here, times_here, follows_plain, follows_tail}
-use Rattle.csn_grammar.specs.Formed.{IsCount, Formed, ItemsFormed, RuleFormed, HaveValues, formed_lits, formed_null, formed_bit, formed_octet, formed_field, formed_rest, formed_spare_bit, formed_spare_low, formed_padding, formed_seq, formed_choice, formed_times, formed_many, formed_cut, formed_window, formed_labelled, formed_name, formed_group, formed_received, formed_sent, formed_end, formed_next, each_next, formed_plain, formed_tail}
+use Rattle.csn_grammar.specs.Meaning.{means_lits, means_null, means_bit, means_octet, means_field, means_rest}
+use Rattle.csn_grammar.specs.Meaning.{means_spare_bit, means_spare_low, means_padding, means_seq, means_times}
+use Rattle.csn_grammar.specs.Meaning.{means_many, means_cut_all, items_end, times_end, many_end}
+use Rattle.csn_grammar.specs.Follow.{Follow, RuleFollows, follows_whole, follows_leaf, follows_seq, follows_choice}
+use Rattle.csn_grammar.specs.Follow.{follows_times, follows_window, follows_labelled, follows_name, follows_group}
+use Rattle.csn_grammar.specs.Follow.{follows_received, follows_sent, items_here, times_here, follows_plain}
+use Rattle.csn_grammar.specs.Follow.{follows_tail}
+use Rattle.csn_grammar.specs.Formed.{IsCount, Formed, ItemsFormed, RuleFormed, HaveValues, formed_lits, formed_null}
+use Rattle.csn_grammar.specs.Formed.{formed_bit, formed_octet, formed_field, formed_rest, formed_spare_bit}
+use Rattle.csn_grammar.specs.Formed.{formed_spare_low, formed_padding, formed_seq, formed_choice, formed_times}
+use Rattle.csn_grammar.specs.Formed.{formed_many, formed_cut, formed_window, formed_labelled, formed_name}
+use Rattle.csn_grammar.specs.Formed.{formed_group, formed_received, formed_sent, formed_end, formed_next, each_next}
+use Rattle.csn_grammar.specs.Formed.{formed_plain, formed_tail}
 use Rattle.csn_grammar.proofs.VoidFacts.{none_kept, tail_void, spare_bit_full, spare_low_full, padding_full, part_void, body_void, left_void, right_void}
 use Rattle.csn_grammar.proofs.Prefixes.{field_leaf, spare_bit_name, spare_low_name, padding_name, ItemsBegun, begun}
 use Rattle.csn_bits.proofs.Packing.{IsBits-zeros}

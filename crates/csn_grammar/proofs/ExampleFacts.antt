@@ -12,9 +12,15 @@ use Rattle.csn_grammar.specs.declared.exponent.Exponent.TheVariants.{Number}
 use Rattle.csn_grammar.specs.RulesV.{RulesV}
 use Rattle.csn_grammar.specs.Environment.{Env, count_of}
 use Rattle.csn_grammar.specs.Void.{Void, void_none, void_sent, void_labelled, void_seq, void_here, void_later, kept_end, kept_next, kept_error}
-use Rattle.csn_grammar.specs.Meaning.{Means, means_lits, means_field, means_padding, means_seq, means_only, means_many, means_cut_all, means_cut, means_window, means_labelled, means_group, items_end, items_next, many_end, many_next, lead_last, lead_next, rule_plain, rule_tail, tail_stop, tail_again}
+use Rattle.csn_grammar.specs.Meaning.{Means, means_lits, means_field, means_padding, means_seq, means_only}
+use Rattle.csn_grammar.specs.Meaning.{means_many, means_cut_all, means_cut, means_window, means_labelled, means_group}
+use Rattle.csn_grammar.specs.Meaning.{items_end, items_next, many_end, many_next, lead_last, lead_next, rule_plain}
+use Rattle.csn_grammar.specs.Meaning.{rule_tail, tail_stop, tail_again}
 use Rattle.csn_grammar.specs.Strings.{Strings}
-use Rattle.csn_grammar.specs.Examples.{M, A, word, braces, sequence, field, bits_by, leaf, row_of, A5HasItsTree, LettersGoByPlace, padding, CountsGoByValue, NearestLabelCounts, PlacesGoOnInWindows, TruncationsTakeFirstParts, RepetitionsHaveARow, guarded, ErrorBranchesAreDropped, TailFormsHaveARow}
+use Rattle.csn_grammar.specs.Examples.{M, A, word, braces, sequence, field, bits_by, leaf, row_of, A5HasItsTree}
+use Rattle.csn_grammar.specs.Examples.{LettersGoByPlace, padding, CountsGoByValue, NearestLabelCounts}
+use Rattle.csn_grammar.specs.Examples.{PlacesGoOnInWindows, TruncationsTakeFirstParts, RepetitionsHaveARow, guarded}
+use Rattle.csn_grammar.specs.Examples.{ErrorBranchesAreDropped, TailFormsHaveARow}
 
 o : 0 ≤ 1
 o = lit≤ tt

@@ -11,8 +11,19 @@ use Rattle.csn_grammar.specs.ExprV.{ExprV, ExprsV}
 use Rattle.csn_grammar.specs.RulesV.{RulesV}
 use Rattle.csn_grammar.specs.Environment.{Frame, Env}
 use Rattle.csn_grammar.specs.TailForm.{TailV}
-use Rattle.csn_grammar.specs.Meaning.{Means, ItemsMean, TimesMean, ManyMean, LeadMean, RuleMeans, TailMeans, means_lits, means_null, means_bit, means_octet, means_field, means_rest, means_spare_bit, means_spare_low, means_padding, means_seq, means_choice, means_only, means_times, means_many, means_cut_all, means_cut, means_window, means_labelled, means_name, means_group, means_received, means_sent, items_end, items_next, times_end, times_next, many_end, many_next, lead_last, lead_next, rule_plain, rule_tail, tail_stop, tail_again}
-use Rattle.csn_grammar.specs.Follow.{Follow, ItemsFollow, TimesFollow, ManyFollow, RuleFollows, TailFollows, follows_whole, follows_leaf, follows_seq, follows_choice, follows_times, follows_many, follows_cut, follows_window, follows_labelled, follows_name, follows_group, follows_received, follows_sent, items_here, items_later, times_here, times_later, many_here, many_later, follows_plain, follows_tail, tail_items, tail_stops, tail_goes_on, tail_turns}
+use Rattle.csn_grammar.specs.Meaning.{Means, ItemsMean, TimesMean, ManyMean, LeadMean, RuleMeans, TailMeans}
+use Rattle.csn_grammar.specs.Meaning.{means_lits, means_null, means_bit, means_octet, means_field, means_rest}
+use Rattle.csn_grammar.specs.Meaning.{means_spare_bit, means_spare_low, means_padding, means_seq, means_choice}
+use Rattle.csn_grammar.specs.Meaning.{means_only, means_times, means_many, means_cut_all, means_cut, means_window}
+use Rattle.csn_grammar.specs.Meaning.{means_labelled, means_name, means_group, means_received, means_sent, items_end}
+use Rattle.csn_grammar.specs.Meaning.{items_next, times_end, times_next, many_end, many_next, lead_last, lead_next}
+use Rattle.csn_grammar.specs.Meaning.{rule_plain, rule_tail, tail_stop, tail_again}
+use Rattle.csn_grammar.specs.Follow.{Follow, ItemsFollow, TimesFollow, ManyFollow, RuleFollows, TailFollows}
+use Rattle.csn_grammar.specs.Follow.{follows_whole, follows_leaf, follows_seq, follows_choice, follows_times}
+use Rattle.csn_grammar.specs.Follow.{follows_many, follows_cut, follows_window, follows_labelled, follows_name}
+use Rattle.csn_grammar.specs.Follow.{follows_group, follows_received, follows_sent, items_here, items_later}
+use Rattle.csn_grammar.specs.Follow.{times_here, times_later, many_here, many_later, follows_plain, follows_tail}
+use Rattle.csn_grammar.specs.Follow.{tail_items, tail_stops, tail_goes_on, tail_turns}
 
 IsBits-split : {w : List ℕ} (b1 b2 : List ℕ) → w ≡ b1 ++ b2 → IsBits b1 → IsBits b2 → IsBits w
 IsBits-split b1 b2 e p q = IsBits-along e (IsBits-append b1 b2 p q)

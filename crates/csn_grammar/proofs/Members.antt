@@ -1,6 +1,7 @@
 -- Items and alternatives, one by one and all together.
 use Rattle.std.proofs.Common.{◌≡◌, ℕ, Bool, List, [], ◌∷◌, ◌++◌, refl, ap, ◌∙◌}
-use Rattle.csn_grammar.specs.ExprV.{ExprV, expr, seq, choice, cut, ExprsV, no_item, item, BranchesV, no_branch, branch, BranchV, item_list, exprs_of, branch_list, branches_of}
+use Rattle.csn_grammar.specs.ExprV.{ExprV, expr, seq, choice, cut, ExprsV, no_item, item, BranchesV, no_branch}
+use Rattle.csn_grammar.specs.ExprV.{branch, BranchV, item_list, exprs_of, branch_list, branches_of}
 use Rattle.csn_grammar.specs.TokenV.{TokenV}
 use Rattle.csn_grammar.specs.reader.Building.{start_of, end_of, seq_with, cut_with, choice_with}
 use Rattle.csn_grammar.specs.Grammar.{AreItems, last_item, more_items, AreBranches}

@@ -11,15 +11,23 @@ use Rattle.csn_desc.specs.Label.{IsLabel}
 use Rattle.csn_desc.proofs.LabelFacts.{word_is_label, label_behind_word}
 use Rattle.csn_grammar.specs.declared.exponent.Exponent.{Exponent}
 use Rattle.csn_grammar.specs.declared.rules.Rule.{Rule}
-use Rattle.csn_grammar.specs.ExprV.{ExprV, expr, lits, null, bit, octet, name, labelled, group, seq, choice, power, cut, both, sends, ExprsV, BranchesV, item_list, branch_list}
+use Rattle.csn_grammar.specs.ExprV.{ExprV, expr, lits, null, bit, octet, name, labelled, group, seq, choice, power}
+use Rattle.csn_grammar.specs.ExprV.{cut, both, sends, ExprsV, BranchesV, item_list, branch_list}
 use Rattle.csn_grammar.specs.RulesV.{RulesV}
 use Rattle.csn_grammar.specs.Shaped.{IsShaped, ItemsShaped, BranchesShaped, AreShaped}
 use Rattle.csn_grammar.specs.Labelled.{IsLabelled, ItemsLabelled, BranchesLabelled, AreLabelled}
 use Rattle.csn_grammar.specs.TokenV.{TokenV, token, tokens_in}
 use Rattle.csn_grammar.specs.Place.{HasRules}
-use Rattle.csn_grammar.specs.Counts.{IsName, IsVal, IsProduct, IsCount, IsExponent, last_word, more_words, val, alone, factor_before, factor_behind, number, product, summand_behind, summand_before, count, times_number, times_val, times_count, any, any_star, any_stars}
+use Rattle.csn_grammar.specs.Counts.{IsName, IsVal, IsProduct, IsCount, IsExponent, last_word, more_words, val, alone}
+use Rattle.csn_grammar.specs.Counts.{factor_before, factor_behind, number, product, summand_behind, summand_before}
+use Rattle.csn_grammar.specs.Counts.{count, times_number, times_val, times_count, any, any_star, any_stars}
 use Rattle.csn_grammar.specs.Writing.{IsLits}
-use Rattle.csn_grammar.specs.Grammar.{IsBase, IsSide, IsWindow, IsItem, AreItems, IsSeq, AreBranches, IsExpr, IsRule, AreRules, components_of, bit_base, octet_base, name_base, labelled_base, group_base, lits_side, null_side, base_side, power_side, cut_side, side_window, both_window, window_item, sends_item, last_item, more_items, one_item, items, cut_items, last_branch, last_error, more_branches, more_errors, one_seq, branches, rule, last_rule, more_rules}
+use Rattle.csn_grammar.specs.Grammar.{IsBase, IsSide, IsWindow, IsItem, AreItems, IsSeq, AreBranches, IsExpr, IsRule}
+use Rattle.csn_grammar.specs.Grammar.{AreRules, components_of, bit_base, octet_base, name_base, labelled_base}
+use Rattle.csn_grammar.specs.Grammar.{group_base, lits_side, null_side, base_side, power_side, cut_side, side_window}
+use Rattle.csn_grammar.specs.Grammar.{both_window, window_item, sends_item, last_item, more_items, one_item, items}
+use Rattle.csn_grammar.specs.Grammar.{cut_items, last_branch, last_error, more_branches, more_errors, one_seq}
+use Rattle.csn_grammar.specs.Grammar.{branches, rule, last_rule, more_rules}
 
 -- ---- tokens
 
@@ -140,7 +148,11 @@ mutual
   items_read : {d s n : ℕ} {ts rest : List TokenV} {xs : ExprsV} → AreItems d ts xs s n rest → AreSpelled ts → Leaves (GoodItems xs) rest
   items_read (last_item is) h = let one = item_read is h in record { has = (omega arith, (one.has.0, tt), (one.has.1, tt)); left = one.left }
   items_read (more_items is are) h =
-      let one = item_read is h in let more = items_read are one.left in record { has = (omega (arith, more.has.0), (one.has.0, more.has.1), (one.has.1, more.has.2)); left = more.left }
+      let one = item_read is h in let more = items_read are one.left in record {
+        has =
+            (omega (arith, more.has.0), (one.has.0, more.has.1), (one.has.1, more.has.2));
+        left = more.left;
+      }
 
   seq_read : {d : ℕ} {ts rest : List TokenV} {x : ExprV} → IsSeq d ts x rest → AreSpelled ts → Leaves (Good x) rest
   seq_read (one_item is) h = item_read is h
@@ -151,14 +163,26 @@ mutual
   branches_read (last_branch is) h = let one = seq_read is h.1 in record { has = (omega arith, (one.has.0, tt), (one.has.1, tt)); left = one.left }
   branches_read (last_error is) h = let one = seq_read is h.1 in record { has = (omega arith, (one.has.0, tt), (one.has.1, tt)); left = one.left }
   branches_read (more_branches is are) h =
-      let one = seq_read is h.1 in let more = branches_read are one.left in record { has = (omega (arith, more.has.0), (one.has.0, more.has.1), (one.has.1, more.has.2)); left = more.left }
+      let one = seq_read is h.1 in let more = branches_read are one.left in record {
+        has =
+            (omega (arith, more.has.0), (one.has.0, more.has.1), (one.has.1, more.has.2));
+        left = more.left;
+      }
   branches_read (more_errors is are) h =
-      let one = seq_read is h.1 in let more = branches_read are one.left in record { has = (omega (arith, more.has.0), (one.has.0, more.has.1), (one.has.1, more.has.2)); left = more.left }
+      let one = seq_read is h.1 in let more = branches_read are one.left in record {
+        has =
+            (omega (arith, more.has.0), (one.has.0, more.has.1), (one.has.1, more.has.2));
+        left = more.left;
+      }
 
   expr_read : {d : ℕ} {ts rest : List TokenV} {x : ExprV} → IsExpr d ts x rest → AreSpelled ts → Leaves (Good x) rest
   expr_read (one_seq is) h = seq_read is h
   expr_read (branches is are) h =
-      let one = seq_read is h in let more = branches_read are one.left in record { has = ((omega (arith, more.has.0), (one.has.0, more.has.1)), (one.has.1, more.has.2)); left = more.left }
+      let one = seq_read is h in let more = branches_read are one.left in record {
+        has =
+            ((omega (arith, more.has.0), (one.has.0, more.has.1)), (one.has.1, more.has.2));
+        left = more.left;
+      }
 
 -- ---- rules
 

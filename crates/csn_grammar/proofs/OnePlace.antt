@@ -1,5 +1,6 @@
 -- A text has rules or one place where it is wrong, and not both: from one place on its tokens are one list.
-use Rattle.std.proofs.Common.{◌≡◌, ℕ, ◌⊎◌, inl, inr, List, [], ◌∷◌, ◌++◌, length, Option, Some, None, Result, Ok, Err, refl, sym, ◌∙◌, ap, subst, append_assoc, append-nil}
+use Rattle.std.proofs.Common.{◌≡◌, ℕ, ◌⊎◌, inl, inr, List, [], ◌∷◌, ◌++◌, length, Option, Some, None, Result, Ok, Err}
+use Rattle.std.proofs.Common.{refl, sym, ◌∙◌, ap, subst, append_assoc, append-nil}
 use Rattle.std.proofs.lemmas.List.{map-append}
 use Rattle.csn_lexer.specs.declared.token.Token.{Token}
 use Rattle.csn_lexer.specs.declared.token.LexFault.{LexFault}
@@ -37,11 +38,14 @@ record Stopped (text : List ℕ) (place : ℕ) : Type 0 where
   last : (back : List Token) (end : ℕ) → AreTokens text to back end → BeginRules (tokens_in text (front ++ back)) → back ≡ []
   place_is : place ≡ place_of text next
 
-begins_front : (text : List ℕ) (front : List Token) (t : Token) (back : List Token) → BeginRules (tokens_in text (front ++ t ∷ back)) → BeginRules (tokens_in text (front ++ t ∷ []))
+begins_front : (text : List ℕ) (front : List Token) (t : Token) (back : List Token)
+    → BeginRules (tokens_in text (front ++ t ∷ back)) → BeginRules (tokens_in text (front ++ t ∷ []))
 begins_front text front t back (more, rules, are) = (
   tokens_in text back ++ more,
   rules,
-  subst (λ ts. AreRules ts rules) (ap (λ ts. ts ++ more) (ap (tokens_in text) (sym (append_assoc front (t ∷ []) back)) ∙ map-append (token_in text) (front ++ t ∷ []) back) ∙ append_assoc (tokens_in text (front ++ t ∷ [])) (tokens_in text back) more) are,
+  subst (λ ts. AreRules ts rules) (ap (λ ts. ts ++ more) (ap (tokens_in text) (sym (append_assoc front (t ∷ []) back))
+      ∙ map-append (token_in text) (front ++ t ∷ []) back) ∙ append_assoc (tokens_in text (front ++ t ∷ []))
+      (tokens_in text back) more) are,
 )
 
 module _ (one_next : OneIsNext) where
@@ -131,7 +135,8 @@ module _ (one_next : OneIsNext) where
   stopped (refused_byte fault tokens begin next) = no_more (Err fault) (byte_no_token fault) tokens begin next refl
   stopped (refused_end tokens begin next none e) = no_more (Ok None) end_no_token tokens begin next e
 
-  one_stop : {text : List ℕ} {place other : ℕ} (a : Stopped text place) (b : Stopped text other) (back : List Token) → b.front ≡ a.front ++ back → AreTokens text a.to back b.to → place ≡ other
+  one_stop : {text : List ℕ} {place other : ℕ} (a : Stopped text place) (b : Stopped text other) (back : List Token)
+      → b.front ≡ a.front ++ back → AreTokens text a.to back b.to → place ≡ other
   one_stop {text} a b back is are =
       let none : back ≡ [] = a.last back b.to are (subst (λ ts. BeginRules (tokens_in text ts)) is b.begin) in
       let same : a.to ≡ b.to = no_move back are none in

@@ -14,8 +14,19 @@ use Rattle.csn_grammar.specs.Forms.{unit_of, is_spare_name, is_leaf}
 use Rattle.csn_grammar.specs.Environment.{Frame, Env, count_of}
 use Rattle.csn_grammar.specs.TailForm.{TailV}
 use Rattle.csn_grammar.specs.Void.{SomeVoid}
-use Rattle.csn_grammar.specs.Meaning.{Means, ItemsMean, TimesMean, ManyMean, LeadMean, RuleMeans, TailMeans, means_lits, means_null, means_bit, means_octet, means_field, means_rest, means_spare_bit, means_spare_low, means_padding, means_seq, means_choice, means_only, means_times, means_many, means_cut_all, means_cut, means_window, means_labelled, means_name, means_group, means_received, means_sent, items_end, items_next, times_end, times_next, many_end, many_next, lead_last, lead_next, rule_plain, rule_tail, tail_stop, tail_again}
-use Rattle.csn_grammar.specs.Follow.{Follow, ItemsFollow, TimesFollow, ManyFollow, RuleFollows, TailFollows, follows_whole, follows_leaf, follows_seq, follows_choice, follows_times, follows_many, follows_cut, follows_window, follows_labelled, follows_name, follows_group, follows_received, follows_sent, items_here, items_later, times_here, times_later, many_here, many_later, follows_plain, follows_tail, tail_items, tail_stops, tail_goes_on, tail_turns}
+use Rattle.csn_grammar.specs.Meaning.{Means, ItemsMean, TimesMean, ManyMean, LeadMean, RuleMeans, TailMeans}
+use Rattle.csn_grammar.specs.Meaning.{means_lits, means_null, means_bit, means_octet, means_field, means_rest}
+use Rattle.csn_grammar.specs.Meaning.{means_spare_bit, means_spare_low, means_padding, means_seq, means_choice}
+use Rattle.csn_grammar.specs.Meaning.{means_only, means_times, means_many, means_cut_all, means_cut, means_window}
+use Rattle.csn_grammar.specs.Meaning.{means_labelled, means_name, means_group, means_received, means_sent, items_end}
+use Rattle.csn_grammar.specs.Meaning.{items_next, times_end, times_next, many_end, many_next, lead_last, lead_next}
+use Rattle.csn_grammar.specs.Meaning.{rule_plain, rule_tail, tail_stop, tail_again}
+use Rattle.csn_grammar.specs.Follow.{Follow, ItemsFollow, TimesFollow, ManyFollow, RuleFollows, TailFollows}
+use Rattle.csn_grammar.specs.Follow.{follows_whole, follows_leaf, follows_seq, follows_choice, follows_times}
+use Rattle.csn_grammar.specs.Follow.{follows_many, follows_cut, follows_window, follows_labelled, follows_name}
+use Rattle.csn_grammar.specs.Follow.{follows_group, follows_received, follows_sent, items_here, items_later}
+use Rattle.csn_grammar.specs.Follow.{times_here, times_later, many_here, many_later, follows_plain, follows_tail}
+use Rattle.csn_grammar.specs.Follow.{tail_items, tail_stops, tail_goes_on, tail_turns}
 use Rattle.csn_grammar.proofs.VoidFacts.{items_full}
 
 -- a part with a number of units is a leaf
@@ -207,7 +218,10 @@ module _ (rules : RulesV) (r : Reading) where
     tail_prefix (tail_turns b1 b2 b3 joins items word next) b c e =
         elim (splits b1 (b2 ++ b3) b c (sym joins ∙ e)) [
           | inside m p q ↦ begun b (items_full rules r items) (items_begin items b m p)
-          | behind m p q ↦ elim (splits b2 b3 m c q) [ inside l u v ↦ tail_goes_on b1 m p items (l, sym word ∙ u) | behind l u v ↦ tail_turns b1 b2 l (p ∙ ap (λ z. b1 ++ z) u) items word (tail_prefix next l c v) ]
+          | behind m p q ↦ elim (splits b2 b3 m c q) [
+            | inside l u v ↦ tail_goes_on b1 m p items (l, sym word ∙ u)
+            | behind l u v ↦ tail_turns b1 b2 l (p ∙ ap (λ z. b1 ++ z) u) items word (tail_prefix next l c v)
+          ]
         ]
 
   -- a string of a rule is followed by it

@@ -87,7 +87,8 @@ end_refused {text} {r = r} h next none =
     refused_end h.tokens (begins (tokens_in text h.front) r h.ran) next
     (λ rules are. let read = complete are in let stopped = ap (option_and_then ends) h.ran ∙ none in absurd (cc)) refl
 
-pub has_rules : {text : List ℕ} {to : ℕ} {r : Reader} (rules : RulesV) → IsRead text to r → IsNext text to (Ok None) → ends r ≡ Some rules → HasRules text rules
+pub has_rules : {text : List ℕ} {to : ℕ} {r : Reader} (rules : RulesV) → IsRead text to r → IsNext text to (Ok None)
+    → ends r ≡ Some rules → HasRules text rules
 has_rules {text} {to} {r} rules h next some = record {
   tokens = h.front;
   read = record { to = to; tokens = h.tokens; stop = next };

@@ -7,7 +7,9 @@ use Rattle.csn_desc.specs.TreeV.{TreeV, Trees}
 use Rattle.csn_grammar.specs.declared.exponent.Exponent.TheVariants.{Number}
 use Rattle.csn_grammar.specs.ExprV.{ExprV, name, item, no_item}
 use Rattle.csn_grammar.specs.Environment.{Frame, Env}
-use Rattle.csn_grammar.specs.Meaning.{Means, ItemsMean, means_lits, means_field, means_times, means_seq, means_labelled, means_spare_bit, means_spare_low, means_padding, means_name, items_next}
+use Rattle.csn_grammar.specs.Meaning.{Means, ItemsMean, means_lits, means_field, means_times, means_seq}
+use Rattle.csn_grammar.specs.Meaning.{means_labelled, means_spare_bit, means_spare_low, means_padding, means_name}
+use Rattle.csn_grammar.specs.Meaning.{items_next}
 use Rattle.csn_grammar.specs.Follow.{Follow, ItemsFollow, follows_whole, follows_leaf, follows_seq, follows_times, follows_labelled, items_here, items_later}
 use Rattle.csn_grammar.specs.Strings.{Strings}
 use Rattle.csn_grammar.specs.Examples.{M, A, B, part, word, sequence, field, bits_by, fields, octet_B5, B5IsRefusedAtThree, padding, PaddingGoesByReading}
@@ -20,7 +22,8 @@ use Rattle.csn_grammar.proofs.OneRule.{body_means, body_follows}
 -- the field of A has three bits
 field_has_three : {o : ℕ} {env : Env} {b : List ℕ} {t : TreeV}
     → Means fields Received (bits_by (Number 3)) o env b t → length b ≡ 3
-field_has_three (means_field unit n is counts wide are) = let three : 3 ≡ n = cc in let one : 1 ≡ unit = cc in let product : unit * n ≡ 1 * n = ap (λ k. k * n) (sym one) in omega arith
+field_has_three (means_field unit n is counts wide are) = let three : 3 ≡ n = cc in let one : 1 ≡ unit = cc in
+    let product : unit * n ≡ 1 * n = ap (λ k. k * n) (sym one) in omega arith
 field_has_three (means_times n is counts h) = cc
 
 a_has_three : {o : ℕ} {env : Env} {b : List ℕ} {t : TreeV}

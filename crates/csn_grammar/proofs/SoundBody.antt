@@ -26,16 +26,25 @@ use Rattle.csn_grammar.specs.ExprV.{ExprV, expr, FormV, lits, null, bit, octet, 
 use Rattle.csn_grammar.specs.RulesV.{RulesV}
 use Rattle.csn_grammar.specs.TokenV.{TokenV, token}
 use Rattle.csn_grammar.specs.Counts.{IsName, last_word, more_words, IsExponent, count, times_number, times_val, times_count, any, any_star, any_stars}
-use Rattle.csn_grammar.specs.Grammar.{NotSlashes, components_of, IsBase, bit_base, octet_base, name_base, labelled_base, group_base, IsSide, lits_side, null_side, base_side, power_side, cut_side, IsExpr}
+use Rattle.csn_grammar.specs.Grammar.{NotSlashes, components_of, IsBase, bit_base, octet_base, name_base}
+use Rattle.csn_grammar.specs.Grammar.{labelled_base, group_base, IsSide, lits_side, null_side, base_side, power_side}
+use Rattle.csn_grammar.specs.Grammar.{cut_side, IsExpr}
 use Rattle.csn_grammar.specs.reader.Spellings.{word_form}
 use Rattle.csn_grammar.specs.reader.ExponentSteps.{exponent_step}
 use Rattle.csn_grammar.specs.reader.Building.{seq_with, choice_with, both_of, sends_of, power_of, cut_group}
-use Rattle.csn_grammar.specs.reader.BodySteps.{goes, fresh, with_joint, word_mode, open_frame, begin_side, close, close_in, after_seq, after_item, after_window, after_joint, after_side, after_slashes, after_base, after_exponent, first_word, after_words, body_step}
+use Rattle.csn_grammar.specs.reader.BodySteps.{goes, fresh, with_joint, word_mode, open_frame, begin_side, close}
+use Rattle.csn_grammar.specs.reader.BodySteps.{close_in, after_seq, after_item, after_window, after_joint, after_side}
+use Rattle.csn_grammar.specs.reader.BodySteps.{after_slashes, after_base, after_exponent, first_word, after_words}
+use Rattle.csn_grammar.specs.reader.BodySteps.{body_step}
 use Rattle.csn_grammar.specs.reader.RuleSteps.{rule_of}
 use Rattle.csn_grammar.proofs.CompleteExpr.{MayFollow}
 use Rattle.csn_grammar.proofs.SoundWords.{Said, said_null, said_bit, said_octet, said_lits, form_said}
 use Rattle.csn_grammar.proofs.SoundExponents.{Completes, at_bracket, at_star, Goes_on, exponent_back}
-use Rattle.csn_grammar.proofs.SoundExpr.{Rest, Closes, closes_rule, closes_brace, closes_label, AfterSeq, seq_closes, AfterItem, item_seq, item_cut, AfterWindow, window_whole, window_sends, AfterSide, side_alone, side_both, side_in_window, side_in_sends, AfterBase, base_whole, base_power, base_cut, Sides, Exprs, side_gather, seq_gather, more_behind, bar_behind, bang_behind, expr_gather}
+use Rattle.csn_grammar.proofs.SoundExpr.{Rest, Closes, closes_rule, closes_brace, closes_label, AfterSeq, seq_closes}
+use Rattle.csn_grammar.proofs.SoundExpr.{AfterItem, item_seq, item_cut, AfterWindow, window_whole, window_sends}
+use Rattle.csn_grammar.proofs.SoundExpr.{AfterSide, side_alone, side_both, side_in_window, side_in_sends, AfterBase}
+use Rattle.csn_grammar.proofs.SoundExpr.{base_whole, base_power, base_cut, Sides, Exprs, side_gather, seq_gather}
+use Rattle.csn_grammar.proofs.SoundExpr.{more_behind, bar_behind, bang_behind, expr_gather}
 
 -- an exponent does not begin with `//`
 exponent_free : {ts rest : List TokenV} {e : Exponent} {n : ℕ} → IsExponent ts e n rest → NotSlashes ts
@@ -152,7 +161,8 @@ module _ (rules : RulesV) (begin : ℕ) (title : List ℕ) where
   brace_back s n w x middle limit is (closes_brace {s = s1} {n = n1} {w = w1} e b) = group_back s n w s1 n1 w1 x limit is b
   brace_back s n w x middle limit is (closes_label e b) = absurd (cc)
 
-  label_back : {frames : List Frame} {level : Level} {ts inner : List TokenV} {out : RulesV} (s n : ℕ) (w : List ℕ) (s1 n1 : ℕ) (w1 l : List ℕ) (x : ExprV) (middle : List TokenV)
+  label_back : {frames : List Frame} {level : Level} {ts inner : List TokenV} {out : RulesV} (s n : ℕ) (w : List ℕ)
+      (s1 n1 : ℕ) (w1 l : List ℕ) (x : ExprV) (middle : List TokenV)
       → length frames < MOST_OPEN → IsName ts l (token kind.Colon s1 n1 w1 ∷ inner) → IsExpr (suc (length frames)) inner x middle
       → Closes rules begin title (record { start = s; opening = Label l; level = level } ∷ frames) x middle out
       → Sides rules begin title frames level (token kind.Less s n w ∷ ts) out
@@ -167,7 +177,8 @@ module _ (rules : RulesV) (begin : ℕ) (title : List ℕ) where
   less_back s n w l is (behind_name {n = n1} b) = base_back s n1 (name l) (λ k y e. absurd (cc)) (name_base is) b
   less_back s n w l is (behind_label {s = s1} {n = n1} {w = w1} limit x) = label_back s n w s1 n1 w1 l x.one x.rest limit is x.is x.behind
 
-  frame_back : {frames : List Frame} {level : Level} {ts : List TokenV} {out : RulesV} (n s : ℕ) (o : Opening) (b : Bool) → nat_lt (length frames) MOST_OPEN ≡ b
+  frame_back : {frames : List Frame} {level : Level} {ts : List TokenV} {out : RulesV} (n s : ℕ) (o : Opening)
+      (b : Bool) → nat_lt (length frames) MOST_OPEN ≡ b
       → Leaves n (if b then goes (record { start = s; opening = o; level = level } ∷ frames) fresh Side else None) ts out
       → (length frames < MOST_OPEN) × Exprs rules begin title (record { start = s; opening = o; level = level } ∷ frames) ts out
   frame_back {frames} n s o true e h = (ltb-true (length frames) MOST_OPEN e, expr_gather rules begin title h)
@@ -183,7 +194,8 @@ module _ (rules : RulesV) (begin : ℕ) (title : List ℕ) where
       brace_back s n w both.1.one both.1.rest both.0 both.1.is both.1.behind
   side_back k s n w h = absurd h
 
-  close_in_back : {frames : List Frame} {ts : List TokenV} {out : RulesV} (f : Frame) (o : Opening) (x : ExprV) (k : TokenKind) (s n : ℕ) (w : List ℕ) → f.opening ≡ o
+  close_in_back : {frames : List Frame} {ts : List TokenV} {out : RulesV} (f : Frame) (o : Opening) (x : ExprV)
+      (k : TokenKind) (s n : ℕ) (w : List ℕ) → f.opening ≡ o
       → Leaves n (close_in frames f.level f.start o x k n) ts out → Closes rules begin title (f ∷ frames) x (token k s n w ∷ ts) out
   close_in_back f Brace x kind.BraceRight s n w e h = closes_brace e h
   close_in_back f (Label l) x kind.Greater s n w e h = closes_label e h
@@ -223,12 +235,14 @@ module _ (rules : RulesV) (begin : ℕ) (title : List ℕ) where
   item_back frames level x k s n w h =
       item_seq (seq_back frames (record level { items = []; joint = Alone }) (seq_with level.items x) k s n w h)
 
-  sends_back : {frames : List Frame} {bs : List BranchV} {e : Bool} {xs : List ExprV} {l : ExprV} {ts middle : List TokenV} {out : RulesV} (s n : ℕ) (w : List ℕ) (y : ExprV)
+  sends_back : {frames : List Frame} {bs : List BranchV} {e : Bool} {xs : List ExprV} {l : ExprV}
+      {ts middle : List TokenV} {out : RulesV} (s n : ℕ) (w : List ℕ) (y : ExprV)
       → IsSide (length frames) ts y middle → AfterSide rules begin title frames bs e xs (Sends l) y middle out
       → AfterWindow rules begin title frames bs e xs l (token kind.Equal s n w ∷ ts) out
   sends_back {middle = middle} s n w y is (side_in_sends b) = window_sends y middle is b
 
-  both_back : {frames : List Frame} {bs : List BranchV} {e : Bool} {xs : List ExprV} {l : ExprV} {ts middle : List TokenV} {out : RulesV} (s n : ℕ) (w : List ℕ) (y : ExprV)
+  both_back : {frames : List Frame} {bs : List BranchV} {e : Bool} {xs : List ExprV} {l : ExprV}
+      {ts middle : List TokenV} {out : RulesV} (s n : ℕ) (w : List ℕ) (y : ExprV)
       → IsSide (length frames) ts y middle → AfterSide rules begin title frames bs e xs (Window l) y middle out
       → AfterSide rules begin title frames bs e xs Alone l (token kind.Ampersand s n w ∷ ts) out
   both_back {middle = middle} s n w y is (side_in_window b) = side_both y middle is b
@@ -263,14 +277,16 @@ module _ (rules : RulesV) (begin : ℕ) (title : List ℕ) where
       → IsExponent (token kind.Star s n w ∷ ts) e n1 rest
   star_opens s n w (at_star is) = is s n w
 
-  slashes_back : {ts : List TokenV} {out : RulesV} (frames : List Frame) (level : Level) (x : ExprV) (o : Option ExprV) (s n : ℕ) (w : List ℕ) → cut_group x n ≡ o
+  slashes_back : {ts : List TokenV} {out : RulesV} (frames : List Frame) (level : Level) (x : ExprV)
+      (o : Option ExprV) (s n : ℕ) (w : List ℕ) → cut_group x n ≡ o
       → Leaves n (after_slashes frames level o x s n w) ts out → AfterBase rules begin title frames level x (token kind.SlashSlash s n w ∷ ts) out
   unfolding after_slashes
   slashes_back frames level x (Some y) s n w e h = base_cut e h
   slashes_back frames level (expr a b (group y)) None s n w e h = absurd (cc)
   slashes_back frames level (expr a b f) None s n w e h = base_whole tt (done_back frames level (expr a b f) kind.SlashSlash s n w h)
 
-  plain_back : {ts : List TokenV} {out : RulesV} (frames : List Frame) (level : Level) (x : ExprV) (k : TokenKind) (s n : ℕ) (w : List ℕ) → MayFollow x (token k s n w ∷ ts)
+  plain_back : {ts : List TokenV} {out : RulesV} (frames : List Frame) (level : Level) (x : ExprV) (k : TokenKind)
+      (s n : ℕ) (w : List ℕ) → MayFollow x (token k s n w ∷ ts)
       → Leaves n (after_side frames level x k s n w) ts out → AfterBase rules begin title frames level x (token k s n w ∷ ts) out
   plain_back frames level x k s n w free h = base_whole free (done_back frames level x k s n w h)
 
@@ -283,7 +299,8 @@ module _ (rules : RulesV) (begin : ℕ) (title : List ℕ) where
   base_step_back frames level x kind.SlashSlash s n w h = slashes_back frames level x (cut_group x n) s n w refl h
   base_step_back {ts} frames level x k s n w h = plain_back frames level x k s n w (may_follow x k s n w ts refl) h
 
-  power_back : {ts : List TokenV} {out : RulesV} (frames : List Frame) (level : Level) (x : ExprV) (p : Progress) (o : Option ExponentNext) (k : TokenKind) (s n : ℕ) (w : List ℕ)
+  power_back : {ts : List TokenV} {out : RulesV} (frames : List Frame) (level : Level) (x : ExprV) (p : Progress)
+      (o : Option ExponentNext) (k : TokenKind) (s n : ℕ) (w : List ℕ)
       → exponent_step p k w ≡ o → Leaves n (after_exponent frames level x n o) ts out → Powers frames level x p (token k s n w ∷ ts) out
   unfolding after_exponent
   power_back frames level x p None k s n w e h = absurd h

@@ -9,12 +9,17 @@ use Rattle.csn_grammar.specs.declared.exponent.Exponent.{Exponent}
 use Rattle.csn_grammar.specs.declared.exponent.Exponent.TheVariants as exponent
 use Rattle.csn_grammar.specs.declared.reader.progress.Terms.{Terms}
 use Rattle.csn_grammar.specs.declared.reader.progress.Progress.{Progress}
-use Rattle.csn_grammar.specs.declared.reader.progress.Progress.TheVariants.{Bracket, Star, StarBracket, Number, Summand, Factor, Before, Val, ValBracket, ValWords, Product, FactorBehind, SummandBehind, Whole}
+use Rattle.csn_grammar.specs.declared.reader.progress.Progress.TheVariants.{Bracket, Star, StarBracket, Number}
+use Rattle.csn_grammar.specs.declared.reader.progress.Progress.TheVariants.{Summand, Factor, Before, Val, ValBracket}
+use Rattle.csn_grammar.specs.declared.reader.progress.Progress.TheVariants.{ValWords, Product, FactorBehind}
+use Rattle.csn_grammar.specs.declared.reader.progress.Progress.TheVariants.{SummandBehind, Whole}
 use Rattle.csn_grammar.specs.declared.reader.progress.ExponentNext.{ExponentNext}
 use Rattle.csn_grammar.specs.declared.reader.progress.ExponentNext.TheVariants.{Goes, Ends}
 use Rattle.csn_grammar.specs.TokenV.{TokenV, token}
 use Rattle.csn_grammar.specs.Writing.{IsNumber}
-use Rattle.csn_grammar.specs.Counts.{IsName, last_word, more_words, IsVal, val, IsProduct, alone, factor_before, factor_behind, IsCount, number, product, summand_behind, summand_before, IsExponent, count, times_number, times_val, times_count, any_star, any_stars}
+use Rattle.csn_grammar.specs.Counts.{IsName, last_word, more_words, IsVal, val, IsProduct, alone, factor_before}
+use Rattle.csn_grammar.specs.Counts.{factor_behind, IsCount, number, product, summand_behind, summand_before}
+use Rattle.csn_grammar.specs.Counts.{IsExponent, count, times_number, times_val, times_count, any_star, any_stars}
 use Rattle.csn_grammar.specs.reader.Spellings.{is_text, number_of}
 use Rattle.csn_grammar.specs.reader.ExponentSteps.{exponent_step, linear, first_some, val_step, count_step, star_step, summand_step}
 use Rattle.csn_grammar.specs.reader.ExponentSteps as step
@@ -183,7 +188,8 @@ bracket_star s n1 w ts e n rest (at_whole {w = w2} {s = s2} {ts = inner} d r) = 
 bracket_stars : (s n1 : ℕ) (w : List ℕ) (ts : List TokenV) (e : Exponent) (n : ℕ) (rest : List TokenV)
     → Completes (Whole exponent.Any) ts e n rest → Completes Bracket (token kind.StarStar s n1 w ∷ ts) e n rest
 bracket_stars s n1 w ts e n rest (at_whole {w = w2} {s = s2} {ts = inner} d r) = at_bracket (λ s0 n0 w0.
-    subst (λ x. IsExponent (token kind.ParenLeft s0 n0 w0 ∷ token kind.StarStar s n1 w ∷ token kind.ParenRight s2 n w2 ∷ inner) x n rest) (sym d) (any_stars r))
+    subst (λ x. IsExponent (token kind.ParenLeft s0 n0 w0 ∷ token kind.StarStar s n1 w ∷ token kind.ParenRight s2 n w2
+    ∷ inner) x n rest) (sym d) (any_stars r))
 
 paren_back : (t : Terms) (b : Bool) (ws : List ℕ) (s n1 : ℕ) (w : List ℕ) (ts : List TokenV) (e : Exponent) (n : ℕ) (rest : List TokenV)
     → Goes_on n1 (if b then Some (Goes (Product t ws)) else Some (Ends (linear t ws))) ts e n rest

@@ -7,11 +7,16 @@ use Rattle.csn_grammar.specs.declared.reader.body.Joint.{Joint}
 use Rattle.csn_grammar.specs.declared.reader.body.Joint.TheVariants.{Alone, Window, Sends}
 use Rattle.csn_grammar.specs.declared.reader.body.Level.{Level}
 use Rattle.csn_grammar.specs.declared.reader.body.Opening.TheVariants.{Brace, Label}
-use Rattle.csn_grammar.specs.ExprV.{ExprV, expr, FormV, labelled, group, seq, choice, cut, ExprsV, no_item, item, item_list, exprs_of, BranchesV, no_branch, branch, BranchV, branch_list, branches_of}
+use Rattle.csn_grammar.specs.ExprV.{ExprV, expr, FormV, labelled, group, seq, choice, cut, ExprsV, no_item, item}
+use Rattle.csn_grammar.specs.ExprV.{item_list, exprs_of, BranchesV, no_branch, branch, BranchV, branch_list}
+use Rattle.csn_grammar.specs.ExprV.{branches_of}
 use Rattle.csn_grammar.specs.RulesV.{RulesV}
 use Rattle.csn_grammar.specs.TokenV.{TokenV, token}
 use Rattle.csn_grammar.specs.Counts.{IsExponent}
-use Rattle.csn_grammar.specs.Grammar.{IsSide, IsWindow, side_window, both_window, IsItem, window_item, sends_item, AreItems, last_item, more_items, IsSeq, one_item, items, cut_items, AreBranches, last_branch, last_error, more_branches, more_errors, IsExpr, one_seq, branches, AreRules}
+use Rattle.csn_grammar.specs.Grammar.{IsSide, IsWindow, side_window, both_window, IsItem, window_item, sends_item}
+use Rattle.csn_grammar.specs.Grammar.{AreItems, last_item, more_items, IsSeq, one_item, items, cut_items, AreBranches}
+use Rattle.csn_grammar.specs.Grammar.{last_branch, last_error, more_branches, more_errors, IsExpr, one_seq, branches}
+use Rattle.csn_grammar.specs.Grammar.{AreRules}
 use Rattle.csn_grammar.specs.reader.Building.{start_of, end_of, seq_with, cut_with, choice_with, both_of, sends_of, power_of, cut_group}
 use Rattle.csn_grammar.specs.reader.BodySteps.{fresh}
 use Rattle.csn_grammar.specs.reader.RuleSteps.{rule_of}
@@ -59,7 +64,8 @@ module _ (rules : RulesV) (begin : ℕ) (title : List ℕ) where
     pub data AfterSeq : List Frame → List BranchV → Bool → ExprV → List TokenV → RulesV → Type 0 where
       seq_closes : {frames : List Frame} {bs : List BranchV} {e : Bool} {q : ExprV} {ts : List TokenV} {out : RulesV}
           → Closes frames (choice_with bs e q) ts out → AfterSeq frames bs e q ts out
-      seq_more : {frames : List Frame} {bs : List BranchV} {e : Bool} {q x : ExprV} {ts : List TokenV} {out : RulesV} (brs : BranchesV) (n : ℕ) (rest : List TokenV)
+      seq_more : {frames : List Frame} {bs : List BranchV} {e : Bool} {q x : ExprV} {ts : List TokenV} {out : RulesV}
+          (brs : BranchesV) (n : ℕ) (rest : List TokenV)
           → AreBranches (length frames) ts brs n rest → x ≡ choice_all bs e q brs n → Closes frames x rest out → AfterSeq frames bs e q ts out
 
     pub data AfterItem : List Frame → List BranchV → Bool → List ExprV → ExprV → List TokenV → RulesV → Type 0 where
@@ -77,7 +83,8 @@ module _ (rules : RulesV) (begin : ℕ) (title : List ℕ) where
     pub data AfterWindow : List Frame → List BranchV → Bool → List ExprV → ExprV → List TokenV → RulesV → Type 0 where
       window_whole : {frames : List Frame} {bs : List BranchV} {e : Bool} {xs : List ExprV} {x : ExprV} {ts : List TokenV} {out : RulesV}
           → AfterItem frames bs e xs x ts out → AfterWindow frames bs e xs x ts out
-      window_sends : {frames : List Frame} {bs : List BranchV} {e : Bool} {xs : List ExprV} {x : ExprV} {s n : ℕ} {w : List ℕ} {ts : List TokenV} {out : RulesV}
+      window_sends : {frames : List Frame} {bs : List BranchV} {e : Bool} {xs : List ExprV} {x : ExprV} {s n : ℕ}
+          {w : List ℕ} {ts : List TokenV} {out : RulesV}
           (y : ExprV) (rest : List TokenV) → IsSide (length frames) ts y rest → AfterItem frames bs e xs (sends_of x y) rest out
           → AfterWindow frames bs e xs x (token kind.Equal s n w ∷ ts) out
 
@@ -156,17 +163,20 @@ module _ (rules : RulesV) (begin : ℕ) (title : List ℕ) where
   all_next xs x i ys = ap exprs_of (append_assoc (xs ++ x ∷ []) (i ∷ []) (item_list ys))
 
   seq_next : (xs : List ExprV) (x i : ExprV) (ys : ExprsV) (n : ℕ) → seq_all (xs ++ x ∷ []) i ys n ≡ seq_all xs x (item i ys) n
-  seq_next xs x i ys n = ap (λ b. expr b n (seq (all_items (xs ++ x ∷ []) i ys))) (begin_next xs x i) ∙ ap (λ a. expr (begin_with xs x) n (seq a)) (all_next xs x i ys)
+  seq_next xs x i ys n = ap (λ b. expr b n (seq (all_items (xs ++ x ∷ []) i ys))) (begin_next xs x i)
+      ∙ ap (λ a. expr (begin_with xs x) n (seq a)) (all_next xs x i ys)
 
   cut_next : (xs : List ExprV) (x i : ExprV) (ys : ExprsV) (n : ℕ) → cut_all (xs ++ x ∷ []) i ys n ≡ cut_all xs x (item i ys) n
-  cut_next xs x i ys n = ap (λ b. expr b n (cut (all_items (xs ++ x ∷ []) i ys))) (begin_next xs x i) ∙ ap (λ a. expr (begin_with xs x) n (cut a)) (all_next xs x i ys)
+  cut_next xs x i ys n = ap (λ b. expr b n (cut (all_items (xs ++ x ∷ []) i ys))) (begin_next xs x i)
+      ∙ ap (λ a. expr (begin_with xs x) n (cut a)) (all_next xs x i ys)
 
   -- one more alternative
   choice_one : (bs : List BranchV) (e : Bool) (q : ExprV) (d : Bool) (i : ExprV)
       → choice_with (bs ++ record { error = e; body = q } ∷ []) d i ≡ choice_all bs e q (branch d i no_branch) (end_of i)
   choice_one [] e q d i = refl
   choice_one (b ∷ bs) e q d i =
-      ap (λ l. expr (start_of b.body) (end_of i) (choice (branches_of (b ∷ l)))) (append_assoc bs (record { error = e; body = q } ∷ []) (record { error = d; body = i } ∷ []))
+      ap (λ l. expr (start_of b.body) (end_of i) (choice (branches_of (b ∷ l))))
+      (append_assoc bs (record { error = e; body = q } ∷ []) (record { error = d; body = i } ∷ []))
 
   begin_branch_next : (bs : List BranchV) (e : Bool) (q i : ExprV) → begin_branch (bs ++ record { error = e; body = q } ∷ []) i ≡ begin_branch bs q
   begin_branch_next [] e q i = refl
@@ -175,8 +185,11 @@ module _ (rules : RulesV) (begin : ℕ) (title : List ℕ) where
   choice_next : (bs : List BranchV) (e : Bool) (q : ExprV) (d : Bool) (i : ExprV) (brs : BranchesV) (n : ℕ)
       → choice_all (bs ++ record { error = e; body = q } ∷ []) d i brs n ≡ choice_all bs e q (branch d i brs) n
   choice_next bs e q d i brs n =
-      ap (λ b. expr b n (choice (branches_of ((bs ++ record { error = e; body = q } ∷ []) ++ record { error = d; body = i } ∷ branch_list brs)))) (begin_branch_next bs e q i)
-      ∙ ap (λ l. expr (begin_branch bs q) n (choice (branches_of l))) (append_assoc bs (record { error = e; body = q } ∷ []) (record { error = d; body = i } ∷ branch_list brs))
+      ap (λ b. expr b n
+      (choice (branches_of ((bs ++ record { error = e; body = q } ∷ []) ++ record { error = d; body = i }
+      ∷ branch_list brs)))) (begin_branch_next bs e q i)
+      ∙ ap (λ l. expr (begin_branch bs q) n (choice (branches_of l)))
+      (append_assoc bs (record { error = e; body = q } ∷ []) (record { error = d; body = i } ∷ branch_list brs))
 
   pub more_behind : {frames : List Frame} {bs : List BranchV} {e : Bool} {xs : List ExprV} {x : ExprV} {ts middle : List TokenV} {out : RulesV} (i : ExprV)
       → IsItem (length frames) ts i middle → AfterItem frames bs e (xs ++ x ∷ []) i middle out → AfterItem frames bs e xs x ts out
@@ -216,7 +229,8 @@ module _ (rules : RulesV) (begin : ℕ) (title : List ℕ) where
 
   -- one more alternative, behind `|` or `!`
   next_behind : {frames : List Frame} {bs : List BranchV} {e : Bool} {q : ExprV} {ts middle : List TokenV} {out : RulesV} (t : TokenV) (d : Bool)
-      → ((s n : ℕ) (f : FormV) → IsSeq (length frames) ts (expr s n f) middle → AreBranches (length frames) (t ∷ ts) (branch d (expr s n f) no_branch) n middle)
+      → ((s n : ℕ) (f : FormV) → IsSeq (length frames) ts (expr s n f) middle → AreBranches (length frames) (t ∷ ts)
+      (branch d (expr s n f) no_branch) n middle)
       → ((x : ExprV) (brs : BranchesV) (n : ℕ) (rest : List TokenV) → IsSeq (length frames) ts x middle → AreBranches (length frames) middle brs n rest
       → AreBranches (length frames) (t ∷ ts) (branch d x brs) n rest)
       → (i : ExprV) → IsSeq (length frames) ts i middle → AfterSeq frames (bs ++ record { error = e; body = q } ∷ []) d i middle out
@@ -226,12 +240,14 @@ module _ (rules : RulesV) (begin : ℕ) (title : List ℕ) where
   next_behind {bs = bs} {e = e} {q = q} t d last next i is (seq_more brs n rest more same c) =
       seq_more (branch d i brs) n rest (next i brs n rest is more) (same ∙ choice_next bs e q d i brs n) c
 
-  pub bar_behind : {frames : List Frame} {bs : List BranchV} {e : Bool} {q : ExprV} {ts middle : List TokenV} {out : RulesV} (s0 n0 : ℕ) (w0 : List ℕ) (i : ExprV)
+  pub bar_behind : {frames : List Frame} {bs : List BranchV} {e : Bool} {q : ExprV} {ts middle : List TokenV}
+      {out : RulesV} (s0 n0 : ℕ) (w0 : List ℕ) (i : ExprV)
       → IsSeq (length frames) ts i middle → AfterSeq frames (bs ++ record { error = e; body = q } ∷ []) false i middle out
       → AfterSeq frames bs e q (token kind.Bar s0 n0 w0 ∷ ts) out
   bar_behind s0 n0 w0 = next_behind (token kind.Bar s0 n0 w0) false (λ s n f is. last_branch is) (λ x brs n rest is more. more_branches is more)
 
-  pub bang_behind : {frames : List Frame} {bs : List BranchV} {e : Bool} {q : ExprV} {ts middle : List TokenV} {out : RulesV} (s0 n0 : ℕ) (w0 : List ℕ) (i : ExprV)
+  pub bang_behind : {frames : List Frame} {bs : List BranchV} {e : Bool} {q : ExprV} {ts middle : List TokenV}
+      {out : RulesV} (s0 n0 : ℕ) (w0 : List ℕ) (i : ExprV)
       → IsSeq (length frames) ts i middle → AfterSeq frames (bs ++ record { error = e; body = q } ∷ []) true i middle out
       → AfterSeq frames bs e q (token kind.Bang s0 n0 w0 ∷ ts) out
   bang_behind s0 n0 w0 = next_behind (token kind.Bang s0 n0 w0) true (λ s n f is. last_error is) (λ x brs n rest is more. more_errors is more)

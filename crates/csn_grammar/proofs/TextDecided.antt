@@ -25,12 +25,16 @@ decided_end text at r read next = go (ends r) refl
     go None e = inr (length text, end_refused read next e)
     go (Some rules) e = inl (rules, has_rules rules read next e)
 
-decided_token : (text : List ℕ) (at : ℕ) (r : Reader) (t : Token) → IsRead text at r → IsNext text at (Ok (Some t)) → (o : Option Reader) → token_step r (token_in text t) ≡ o → ((q : Reader) → IsRead text t.end q → Decided text) → Decided text
+decided_token : (text : List ℕ) (at : ℕ) (r : Reader) (t : Token) → IsRead text at r → IsNext text at (Ok (Some t))
+    → (o : Option Reader) → token_step r (token_in text t) ≡ o → ((q : Reader) → IsRead text t.end q → Decided text)
+    → Decided text
 decided_token text at r t read next None e further = inr (t.start, token_refused t read next e)
 decided_token text at r t read next (Some q) e further = further q (read_more t q read next e)
 
 -- by what is next, where the text is decided behind a token
-decided_next : (text : List ℕ) (at : ℕ) (r : Reader) → IsRead text at r → (next : Result (Option Token) LexFault) → IsNext text at next → ((t : Token) → at < t.end → t.end ≤ length text → (q : Reader) → IsRead text t.end q → Decided text) → Decided text
+decided_next : (text : List ℕ) (at : ℕ) (r : Reader) → IsRead text at r → (next : Result (Option Token) LexFault)
+    → IsNext text at next → ((t : Token) → at < t.end → t.end ≤ length text → (q : Reader)
+    → IsRead text t.end q → Decided text) → Decided text
 decided_next text at r read (Ok None) next further = decided_end text at r read next
 decided_next text at r read (Ok (Some t)) next further =
     decided_token text at r t read next (token_step r (token_in text t)) refl

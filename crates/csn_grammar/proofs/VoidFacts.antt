@@ -14,9 +14,20 @@ use Rattle.csn_grammar.specs.Names.{same_name, is_built_in, rule_of}
 use Rattle.csn_grammar.specs.Forms.{WindowV, window_of}
 use Rattle.csn_grammar.specs.Environment.{Frame, Env}
 use Rattle.csn_grammar.specs.TailForm.{WordV, EndV, TailV, word_of, again_of, end_with, end_of, last_item, front_items, tail_of_body}
-use Rattle.csn_grammar.specs.Void.{Void, SomeVoid, AllVoid, Kept, void_none, void_name, void_group, void_labelled, void_window, void_seq, void_choice, void_received, void_sent, void_here, void_later, all_end, all_next, all_error, kept_end, kept_next, kept_void, kept_error}
-use Rattle.csn_grammar.specs.Meaning.{Means, ItemsMean, RuleMeans, TailMeans, means_lits, means_null, means_bit, means_octet, means_field, means_rest, means_spare_bit, means_spare_low, means_padding, means_seq, means_choice, means_only, means_times, means_many, means_cut_all, means_cut, means_window, means_labelled, means_name, means_group, means_received, means_sent, items_end, items_next, rule_plain, rule_tail, tail_stop, tail_again}
-use Rattle.csn_grammar.specs.Follow.{Follow, RuleFollows, TailFollows, follows_whole, follows_leaf, follows_seq, follows_choice, follows_times, follows_many, follows_cut, follows_window, follows_labelled, follows_name, follows_group, follows_received, follows_sent, follows_plain, follows_tail, tail_items, tail_stops, tail_goes_on, tail_turns}
+use Rattle.csn_grammar.specs.Void.{Void, SomeVoid, AllVoid, Kept, void_none, void_name, void_group, void_labelled}
+use Rattle.csn_grammar.specs.Void.{void_window, void_seq, void_choice, void_received, void_sent, void_here}
+use Rattle.csn_grammar.specs.Void.{void_later, all_end, all_next, all_error, kept_end, kept_next, kept_void}
+use Rattle.csn_grammar.specs.Void.{kept_error}
+use Rattle.csn_grammar.specs.Meaning.{Means, ItemsMean, RuleMeans, TailMeans, means_lits, means_null, means_bit}
+use Rattle.csn_grammar.specs.Meaning.{means_octet, means_field, means_rest, means_spare_bit, means_spare_low}
+use Rattle.csn_grammar.specs.Meaning.{means_padding, means_seq, means_choice, means_only, means_times, means_many}
+use Rattle.csn_grammar.specs.Meaning.{means_cut_all, means_cut, means_window, means_labelled, means_name, means_group}
+use Rattle.csn_grammar.specs.Meaning.{means_received, means_sent, items_end, items_next, rule_plain, rule_tail}
+use Rattle.csn_grammar.specs.Meaning.{tail_stop, tail_again}
+use Rattle.csn_grammar.specs.Follow.{Follow, RuleFollows, TailFollows, follows_whole, follows_leaf, follows_seq}
+use Rattle.csn_grammar.specs.Follow.{follows_choice, follows_times, follows_many, follows_cut, follows_window}
+use Rattle.csn_grammar.specs.Follow.{follows_labelled, follows_name, follows_group, follows_received, follows_sent}
+use Rattle.csn_grammar.specs.Follow.{follows_plain, follows_tail, tail_items, tail_stops, tail_goes_on, tail_turns}
 
 -- a name that is built in means no rule
 pub no_rule : (rules : RulesV) (n : List ℕ) (rule : Rule) → is_built_in n ≡ true
@@ -113,7 +124,8 @@ module _ (rules : RulesV) (r : Reading) where
       found (Some w) e = absurd (word_full x w e v)
 
   end_full : (n : List ℕ) (z : ExprV) (end : EndV) → end_of n z ≡ Some end → Void rules r z → ⊥
-  end_full n (expr s e (group (expr s' e' (choice (branch false x (branch false y no_branch)))))) end p (void_group (void_choice (all_next vx (all_next vy all_end)))) =
+  end_full n (expr s e (group (expr s' e' (choice (branch false x (branch false y no_branch)))))) end p
+      (void_group (void_choice (all_next vx (all_next vy all_end)))) =
       some_stop s (again_of n y) (again_of n x) (word_of x) (word_of y) end p (not_word x vx) (not_word y vy)
   end_full n z end p v = cc
 

@@ -8,7 +8,9 @@ use Rattle.csn_desc.specs.declared.symbol.Symbol.{Symbol}
 use Rattle.csn_desc.specs.declared.symbol.Symbol.TheVariants.{Zero, One, Low, High}
 use Rattle.csn_grammar.specs.declared.exponent.Exponent.{Exponent}
 use Rattle.csn_grammar.specs.declared.exponent.Exponent.TheVariants.{Any, Number, Linear}
-use Rattle.csn_grammar.specs.ExprV.{ExprV, expr, FormV, lits, null, bit, octet, name, labelled, group, seq, choice, power, cut, both, sends, ExprsV, no_item, item, BranchesV, no_branch, branch, BranchV, exprs_of, branches_of}
+use Rattle.csn_grammar.specs.ExprV.{ExprV, expr, FormV, lits, null, bit, octet, name, labelled, group, seq, choice}
+use Rattle.csn_grammar.specs.ExprV.{power, cut, both, sends, ExprsV, no_item, item, BranchesV, no_branch, branch}
+use Rattle.csn_grammar.specs.ExprV.{BranchV, exprs_of, branches_of}
 
 abbrev pub numbers : Coded (List ℕ)
 numbers = coded_list coded_ℕ

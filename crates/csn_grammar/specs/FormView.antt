@@ -2,7 +2,8 @@
 use Rattle.csn_grammar.specs.declared.expr.Span.{Span}
 use Rattle.csn_grammar.specs.declared.expr.Form.{Form}
 use Rattle.csn_grammar.specs.declared.expr.Form.TheVariants.{Lits, Null, Bit, Octet, Name, Labelled, Group, Seq, Choice, Power, Cut, Both, Sends}
-use Rattle.csn_grammar.specs.ExprV.{ExprV, expr, FormV, lits, null, bit, octet, name, labelled, group, seq, choice, power, cut, both, sends, exprs_of, branches_of}
+use Rattle.csn_grammar.specs.ExprV.{ExprV, expr, FormV, lits, null, bit, octet, name, labelled, group, seq, choice}
+use Rattle.csn_grammar.specs.ExprV.{power, cut, both, sends, exprs_of, branches_of}
 
 abbrev pub form_view : Form → FormV
 form_view (Lits run) = lits run

@@ -1,7 +1,8 @@
 -- The labels that stand in the rules of a text: words with one space between.
 use Rattle.std.specs.Prelude.{⊤, [], ◌∷◌}
 use Rattle.csn_desc.specs.Label.{IsLabel}
-use Rattle.csn_grammar.specs.ExprV.{ExprV, expr, FormV, lits, null, bit, octet, name, labelled, group, seq, choice, power, cut, both, sends, ExprsV, no_item, item, BranchesV, no_branch, branch}
+use Rattle.csn_grammar.specs.ExprV.{ExprV, expr, FormV, lits, null, bit, octet, name, labelled, group, seq, choice}
+use Rattle.csn_grammar.specs.ExprV.{power, cut, both, sends, ExprsV, no_item, item, BranchesV, no_branch, branch}
 use Rattle.csn_grammar.specs.RulesV.{RulesV}
 
 -- each labelled part in the expression has such a label

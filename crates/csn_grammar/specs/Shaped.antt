@@ -2,7 +2,9 @@
 -- a choice two alternatives, and a truncation one component. Nodes need as much. (The forms are those of 3GPP
 -- TS 24.007 Annex B.)
 use Rattle.std.specs.Prelude.{◌≤◌, ⊤, [], ◌∷◌, length}
-use Rattle.csn_grammar.specs.ExprV.{ExprV, expr, FormV, lits, null, bit, octet, name, labelled, group, seq, choice, power, cut, both, sends, ExprsV, no_item, item, BranchesV, no_branch, branch, item_list, branch_list}
+use Rattle.csn_grammar.specs.ExprV.{ExprV, expr, FormV, lits, null, bit, octet, name, labelled, group, seq, choice}
+use Rattle.csn_grammar.specs.ExprV.{power, cut, both, sends, ExprsV, no_item, item, BranchesV, no_branch, branch}
+use Rattle.csn_grammar.specs.ExprV.{item_list, branch_list}
 use Rattle.csn_grammar.specs.RulesV.{RulesV}
 
 abbrev mutual

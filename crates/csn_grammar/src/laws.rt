@@ -1,6 +1,11 @@
 //! Laws over the definitions, each the contract of a function that does nothing.
 
-ghost use Rattle.csn_grammar.specs.Laws.{PrefixesAreFollowed, BlockPrefixesAreFollowed, MeaningsAreFollowed, StringsAreFollowed, MeaningsAreBits, FollowedAreBits, VoidMeansNothing, VoidFollowsNothing, AlternativesAreKeptOnce, EmptyBitsAreFollowed, EmptyBlocksAreFollowed, BlocksHaveAPlace, BlocksHaveOnePlace, TextsHaveOneListOfRules, TextsAreDecided, RulesHaveNoFault, TextsHaveOnePlace, RulesOfTextsAreShaped, LabelsOfTextsAreLabels};
+ghost use Rattle.csn_grammar.specs.Laws.{PrefixesAreFollowed, BlockPrefixesAreFollowed, MeaningsAreFollowed};
+ghost use Rattle.csn_grammar.specs.Laws.{StringsAreFollowed, MeaningsAreBits, FollowedAreBits, VoidMeansNothing};
+ghost use Rattle.csn_grammar.specs.Laws.{VoidFollowsNothing, AlternativesAreKeptOnce, EmptyBitsAreFollowed};
+ghost use Rattle.csn_grammar.specs.Laws.{EmptyBlocksAreFollowed, BlocksHaveAPlace, BlocksHaveOnePlace};
+ghost use Rattle.csn_grammar.specs.Laws.{TextsHaveOneListOfRules, TextsAreDecided, RulesHaveNoFault};
+ghost use Rattle.csn_grammar.specs.Laws.{TextsHaveOnePlace, RulesOfTextsAreShaped, LabelsOfTextsAreLabels};
 
 /// The first few of bits that an expression follows are followed by it, and so are those of a block.
 pub fn prefixes_are_followed()

@@ -14,7 +14,8 @@ drop-empty xs at n within is = (
 )
 
 -- a piece of a list, moved to the front of some room, and what stands behind the piece
-pub drop-moved : (xs piece room : List ℕ) (at n : ℕ) → at + n ≤ length xs → piece ≡ slice_range xs at (at + n) → drop at xs ≡ take n (piece ++ room) ++ drop (at + n) xs
+pub drop-moved : (xs piece room : List ℕ) (at n : ℕ) → at + n ≤ length xs → piece ≡ slice_range xs at (at + n)
+    → drop at xs ≡ take n (piece ++ room) ++ drop (at + n) xs
 drop-moved xs piece room at n within is =
     let size : length piece ≡ n = ap length is ∙ length-take-le (at + n - at) (drop at xs) (omega (arith, length-drop at xs)) ∙ omega arith in
     let front : take n (piece ++ room) ≡ piece = rw (← size) (take-append_seam piece room) in

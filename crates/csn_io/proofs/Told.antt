@@ -21,7 +21,8 @@ gave_more (Some left) middle last xs ys (rest, split, told) more =
     (next.0, split ∙ ap (λ zs. xs ++ zs) next.1 ∙ sym (append_assoc xs ys next.0), next.2)
 
 -- a sink that took some bytes, and then some more
-pub appended_more : (first middle last : Option (List ℕ)) (xs ys : List ℕ) → Appended first middle xs → Appended middle last ys → Appended first last (xs ++ ys)
+pub appended_more : (first middle last : Option (List ℕ)) (xs ys : List ℕ)
+    → Appended first middle xs → Appended middle last ys → Appended first last (xs ++ ys)
 appended_more None middle last xs ys none more = let P : Option (List ℕ) → Type 0 = λ told. Appended told last ys in subst P none more
 appended_more (Some taken) middle last xs ys some more =
     let P : Option (List ℕ) → Type 0 = λ told. Appended told last ys in

@@ -13,7 +13,8 @@ use Rattle.csn_desc.specs.TreeV.{TreeV, empty, bits, row, Trees, none, more}
 use Rattle.csn_desc.specs.declared.desc.TheConstants.{MOST_NODES}
 use Rattle.csn_treetext.specs.declared.bounds.TheConstants.{MOST_LEVELS}
 use Rattle.csn_treetext.proofs.Fitting.{room_for}
-use Rattle.serde_json.specs.Data.{Data, null, boolean, number, string, array, object, unsigned, negative, float, Items, no_items, item, Members, no_members, member}
+use Rattle.serde_json.specs.Data.{Data, null, boolean, number, string, array, object, unsigned, negative, float}
+use Rattle.serde_json.specs.Data.{Items, no_items, item, Members, no_members, member}
 use Rattle.serde_json.specs.Read.{read}
 use Rattle.csn_json.specs.declared.tag.Tag.{Tag}
 use Rattle.csn_json.specs.declared.tag.Tag.TheVariants.{Numbered, Labelled}
@@ -22,7 +23,8 @@ use Rattle.csn_json.specs.JsonText.{IsJson, Decided}
 use Rattle.csn_json.specs.Reading.{IsWritten, IsShown, AreShown, IsTag, with_tag}
 use Rattle.csn_json.specs.Laws.{TextsAreDecided}
 use Rattle.csn_json.proofs.Lines.{is_upper, spells, from_block_line}
-use Rattle.csn_json.proofs.Refusals.{no_truth, no_number, line_of, row_of, members_of, known_members, no_number_under, no_label_under, no_tag_under, shown_with_tag}
+use Rattle.csn_json.proofs.Refusals.{no_truth, no_number, line_of, row_of, members_of, known_members, no_number_under}
+use Rattle.csn_json.proofs.Refusals.{no_label_under, no_tag_under, shown_with_tag}
 use Rattle.csn_json.proofs.Texts.{is_text}
 
 -- it holds or does not
@@ -115,7 +117,8 @@ of_tag round key of inside (inl shown) = elim (some_tag key of) [
 
 -- an object whose second member is no tree
 not_tree : (round : ℕ) (k l : List ℕ) (of inside : Data) (ms : Members) → (l ≡ codes "tree" → ⊥) → Shows round (object (member k of (member l inside ms)))
-not_tree round k l of inside ms never = inr (λ shown. let found = members_of round _ shown.0 shown.1 in let e = found.3 in let same : l ≡ codes "tree" = cc in never same)
+not_tree round k l of inside ms never = inr (λ shown. let found = members_of round _ shown.0 shown.1 in let e =
+    found.3 in let same : l ≡ codes "tree" = cc in never same)
 
 two_members : (round : ℕ) (k l : List ℕ) (of inside : Data) → Shows (round + 1) inside → Shows round (object (member k of (member l inside no_members)))
 two_members round k l of inside below = elim (same_bytes l (codes "tree")) [
@@ -168,7 +171,15 @@ module _ (read_lines : WrittenIsRead) (decided : FaultOrBlock) where
 
   both : (round : ℕ) (value : Data) (values : Items) → Shows round value → AllShow round values → AllShow round (item value values)
   both round value values (inl first) (inl rest) =
-      inl (more first.0 rest.0, record { fits = (first.1.fits, rest.1.fits); parts = (first.1.parts, rest.1.parts); shown = rw (first.1.shown, rest.1.shown) refl })
+      inl (
+        more first.0 rest.0,
+        record {
+          fits = (first.1.fits, rest.1.fits);
+          parts =
+              (first.1.parts, rest.1.parts);
+          shown = rw (first.1.shown, rest.1.shown) refl;
+        },
+      )
   both round value values (inr never) rest = inr (λ is. never (first_of_row round value values is.0 is.1))
   both round value values (inl first) (inr never) = inr (λ is. never (rest_of_row round value values is.0 is.1))
 

@@ -42,6 +42,7 @@ pub from_block_line : (line bits : List ℕ) → map upper line ≡ line → Blo
 from_block_line line bits same is = record { zeros_and_ones = is.zeros_and_ones; few = is.few; spelled = sym same ∙ is.spelled }
 
 -- no line that is written for bits is told a fault
-pub no_fault_told : WrittenIsRead → FaultOrBlock → (line bits : List ℕ) (fault : BitsFault) → IsWritten line bits → (fault ≡ NoMemory → ⊥) → ((fault ≡ NoMemory) ⊎ IsLineFault line fault) → ⊥
+pub no_fault_told : WrittenIsRead → FaultOrBlock → (line bits : List ℕ) (fault : BitsFault)
+    → IsWritten line bits → (fault ≡ NoMemory → ⊥) → ((fault ≡ NoMemory) ⊎ IsLineFault line fault) → ⊥
 no_fault_told read decided line bits fault is other (inl memory) = other memory
 no_fault_told read decided line bits fault is other (inr told) = let none = (decided line).1 (bits, spells read line bits is) in let some = told.1 in absurd cc

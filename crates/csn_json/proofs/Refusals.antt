@@ -33,7 +33,8 @@ pub memory_alone : {T : Type 0} (B : Type 0) (r : Result T JsonFault) → IfErr 
 memory_alone B (Ok x) only = tt
 memory_alone B (Err e) only = subst (λ fault. Refuses fault B) (sym only) tt
 
-pub passed_memory : {T : Type 0} (B : Type 0) (r : Result T JsonFault) (e : JsonFault) → IsErrAnd r (λ y. y ≡ e) → e ≡ NoMemory → IfErr r (λ fault. Refuses fault B)
+pub passed_memory : {T : Type 0} (B : Type 0) (r : Result T JsonFault) (e : JsonFault) → IsErrAnd r (λ y. y ≡ e)
+    → e ≡ NoMemory → IfErr r (λ fault. Refuses fault B)
 passed_memory B r e handed only = passed r e handed (λ (b : B). b) (subst (λ fault. Refuses fault B) (sym only) tt)
 
 -- ---- values that show nothing
@@ -66,24 +67,38 @@ pub record Tagged (round : ℕ) (key : List ℕ) (of inside : Data) : Type 0 whe
   pub is_tag : IsTag key of tag
   pub below : IsShown (round + 1) inside tree
 
-pub members_of : (round : ℕ) (ms : Members) (t : TreeV) → IsShown round (object ms) t → (key : List ℕ) × (of : Data) × (inside : Data) × (object ms ≡ tagged key of inside) × Tagged round key of inside
+pub members_of : (round : ℕ) (ms : Members) (t : TreeV) → IsShown round (object ms) t → (key : List ℕ) × (of : Data)
+    × (inside : Data) × (object ms ≡ tagged key of inside) × Tagged round key of inside
 members_of round ms (alt j t) is = (
   codes "alt",
   number (unsigned j),
   json_of t,
   is.shown,
-  record { tag = Numbered j; tree = t; is_tag = (refl, is.fits.0, refl); below = rw (add-one round) (record { fits = is.fits.1; parts = is.parts; shown = refl }) },
+  record {
+    tag = Numbered j;
+    tree = t;
+    is_tag = (refl, is.fits.0, refl);
+    below =
+        rw (add-one round) (record { fits = is.fits.1; parts = is.parts; shown = refl });
+  },
 )
 members_of round ms (named l t) is = (
   codes "label",
   string l,
   json_of t,
   is.shown,
-  record { tag = Labelled l; tree = t; is_tag = (refl, is.parts.0, refl); below = rw (add-one round) (record { fits = is.fits; parts = is.parts.1; shown = refl }) },
+  record {
+    tag = Labelled l;
+    tree = t;
+    is_tag = (refl, is.parts.0, refl);
+    below =
+        rw (add-one round) (record { fits = is.fits; parts = is.parts.1; shown = refl });
+  },
 )
 members_of round ms _ is = absurd (let e = is.shown in cc)
 
-same_members : (round : ℕ) (key : List ℕ) (of inside : Data) (k : List ℕ) (o i : Data) → tagged k o i ≡ tagged key of inside → Tagged round k o i → Tagged round key of inside
+same_members : (round : ℕ) (key : List ℕ) (of inside : Data) (k : List ℕ) (o i : Data)
+    → tagged k o i ≡ tagged key of inside → Tagged round k o i → Tagged round key of inside
 same_members round key of inside k o i same is =
     let keys : k ≡ key = cc in
     let ofs : o ≡ of = cc in
@@ -91,21 +106,25 @@ same_members round key of inside k o i same is =
     subst (λ x. Tagged round x of inside) keys (subst (λ x. Tagged round k x inside) ofs (subst (λ x. Tagged round k o x) insides is))
 
 -- an object of two known members that shows a tree
-pub known_members : (round : ℕ) (ms : Members) (key : List ℕ) (of inside : Data) → object ms ≡ tagged key of inside → (t : TreeV) → IsShown round (object ms) t → Tagged round key of inside
+pub known_members : (round : ℕ) (ms : Members) (key : List ℕ) (of inside : Data) → object ms ≡ tagged key of inside
+    → (t : TreeV) → IsShown round (object ms) t → Tagged round key of inside
 known_members round ms key of inside known t is =
     let found = members_of round ms t is in
     same_members round key of inside found.0 found.1 found.2 (sym found.3 ∙ known) found.4
 
 -- one is refused where what its tag or its tree has to be is refused
 pub member_refused :
-    {T A : Type 0} (round : ℕ) (ms : Members) (key : List ℕ) (of inside : Data) → object ms ≡ tagged key of inside → (r : Result T JsonFault) (e : JsonFault) → IsErrAnd r (λ y. y ≡ e)
+    {T A : Type 0} (round : ℕ) (ms : Members) (key : List ℕ) (of inside : Data) → object ms ≡ tagged key of inside
+    → (r : Result T JsonFault) (e : JsonFault) → IsErrAnd r (λ y. y ≡ e)
     → (A → Tagged round key of inside → ⊥) → Refuses e A → IfErr r (λ fault. Refuses fault ((t : TreeV) → IsShown round (object ms) t → ⊥))
 member_refused round ms key of inside known r e handed none h =
     passed r e handed (λ nothing t is. none nothing (known_members round ms key of inside known t is)) h
 
 -- ---- the tag under a key
 
-pub no_number_under : (key : List ℕ) (of : Data) → key ≡ codes "alt" → ((n : ℕ) → n < MOST_NODES → of ≡ number (unsigned n) → ⊥) → (tag : Tag) → IsTag key of tag → ⊥
+pub no_number_under : (key : List ℕ) (of : Data)
+    → key ≡ codes "alt" → ((n : ℕ) → n < MOST_NODES → of ≡ number (unsigned n) → ⊥) → (tag : Tag)
+    → IsTag key of tag → ⊥
 no_number_under key of is nothing (Numbered j) tag = nothing j tag.1 tag.2
 no_number_under key of is nothing (Labelled l) tag = absurd (let e = sym is ∙ tag.0 in cc)
 
@@ -119,13 +138,15 @@ no_tag_under key of no_alt no_label (Labelled l) tag = no_label tag.0
 
 -- ---- the tree of a tag and of what stands beside it
 
-pub shown_with_tag : (round : ℕ) (key : List ℕ) (of inside : Data) (tag : Tag) (t : TreeV) → IsTag key of tag → IsShown (round + 1) inside t → IsShown round (tagged key of inside) (with_tag tag t)
+pub shown_with_tag : (round : ℕ) (key : List ℕ) (of inside : Data) (tag : Tag) (t : TreeV)
+    → IsTag key of tag → IsShown (round + 1) inside t → IsShown round (tagged key of inside) (with_tag tag t)
 shown_with_tag round key of inside (Numbered j) t is below =
     let next = subst (λ n. IsShown n inside t) (add-one round) below in
     record {
       fits = (is.1, next.fits);
       parts = next.parts;
-      shown = ap (λ k. tagged k of inside) is.0 ∙ ap (λ o. tagged (codes "alt") o inside) is.2 ∙ ap (λ i. tagged (codes "alt") (number (unsigned j)) i) next.shown;
+      shown = ap (λ k. tagged k of inside) is.0 ∙ ap (λ o. tagged (codes "alt") o inside) is.2
+          ∙ ap (λ i. tagged (codes "alt") (number (unsigned j)) i) next.shown;
     }
 shown_with_tag round key of inside (Labelled l) t is below =
     let next = subst (λ n. IsShown n inside t) (add-one round) below in
@@ -135,8 +156,10 @@ shown_with_tag round key of inside (Labelled l) t is below =
       shown = ap (λ k. tagged k of inside) is.0 ∙ ap (λ o. tagged (codes "label") o inside) is.2 ∙ ap (λ i. tagged (codes "label") (string l) i) next.shown;
     }
 
-pub tagged_shown : (round : ℕ) (ms : Members) (key : List ℕ) (of inside : Data) → object ms ≡ tagged key of inside → (tag : Tag) (t : TreeV) (r : Result TreeV JsonFault) → IsTag key of tag → IsShown (round + 1) inside t
+pub tagged_shown : (round : ℕ) (ms : Members) (key : List ℕ) (of inside : Data) → object ms ≡ tagged key of inside
+    → (tag : Tag) (t : TreeV) (r : Result TreeV JsonFault) → IsTag key of tag → IsShown (round + 1) inside t
     → IfOk r (λ whole. whole ≡ with_tag tag t) → IfOk r (IsShown round (object ms))
 tagged_shown round ms key of inside known tag t (Ok whole) is below made =
-    subst (IsShown round (object ms)) (sym made) (subst (λ d. IsShown round d (with_tag tag t)) (sym known) (shown_with_tag round key of inside tag t is below))
+    subst (IsShown round (object ms)) (sym made) (subst (λ d. IsShown round d (with_tag tag t)) (sym known)
+    (shown_with_tag round key of inside tag t is below))
 tagged_shown round ms key of inside known tag t (Err e) is below made = tt

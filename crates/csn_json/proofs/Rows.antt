@@ -12,16 +12,25 @@ pub none_shown : (round : ℕ) → AreShown round no_items none
 none_shown round = record { fits = tt; parts = tt; shown = refl }
 
 -- one more value, and the tree that it shows
-push_shown : (round : ℕ) (vs : List Value) (v : Value) (ts : List TreeV) (t : TreeV) → AreShown round (items_view vs) (trees_of ts) → IsShown round (view v) t → AreShown round (items_view (vs ++ v ∷ [])) (trees_of (ts ++ t ∷ []))
+push_shown : (round : ℕ) (vs : List Value) (v : Value) (ts : List TreeV) (t : TreeV)
+    → AreShown round (items_view vs) (trees_of ts)
+    → IsShown round (view v) t → AreShown round (items_view (vs ++ v ∷ [])) (trees_of (ts ++ t ∷ []))
 push_shown round [] v [] t all this = record { fits = (this.fits, tt); parts = (this.parts, tt); shown = ap (λ d. item d no_items) this.shown }
 push_shown round [] v (u ∷ ts) t all this = absurd (let e = all.shown in cc)
 push_shown round (w ∷ vs) v [] t all this = absurd (let e = all.shown in cc)
 push_shown round (w ∷ vs) v (u ∷ ts) t all this =
     let first : view w ≡ json_of u = (let e = all.shown in cc) in
     let rest = push_shown round vs v ts t (record { fits = all.fits.1; parts = all.parts.1; shown = (let e = all.shown in cc) }) this in
-    record { fits = (all.fits.0, rest.fits); parts = (all.parts.0, rest.parts); shown = ap (λ d. item d (items_view (vs ++ v ∷ []))) first ∙ ap (item (json_of u)) rest.shown }
+    record {
+      fits = (all.fits.0, rest.fits);
+      parts = (all.parts.0, rest.parts);
+      shown =
+          ap (λ d. item d (items_view (vs ++ v ∷ []))) first ∙ ap (item (json_of u)) rest.shown;
+    }
 
-pub next_shown : (round : ℕ) (vs : List Value) (at : ℕ) (v : Value) (ts : List TreeV) (t : TreeV) → at < length vs → v ≡ get_or vs at v → AreShown round (items_view (take at vs)) (trees_of ts) → IsShown round (view v) t
+pub next_shown : (round : ℕ) (vs : List Value) (at : ℕ) (v : Value) (ts : List TreeV) (t : TreeV)
+    → at < length vs → v ≡ get_or vs at v → AreShown round (items_view (take at vs)) (trees_of ts)
+    → IsShown round (view v) t
     → AreShown round (items_view (take (at + 1) vs)) (trees_of (ts ++ t ∷ []))
 next_shown round vs at v ts t low is all this =
     let count : at + 1 ≡ suc at = omega arith in
@@ -29,7 +38,8 @@ next_shown round vs at v ts t low is all this =
     rw count (rw next (push_shown round (take at vs) v ts t all this))
 
 -- each value of an array that shows the trees of a row shows one of them
-pub item_shown : (round : ℕ) (vs : List Value) (at : ℕ) (v : Value) (ts : Trees) → at < length vs → v ≡ get_or vs at v → AreShown round (items_view vs) ts → (t : TreeV) × IsShown round (view v) t
+pub item_shown : (round : ℕ) (vs : List Value) (at : ℕ) (v : Value) (ts : Trees) → at < length vs → v ≡ get_or vs at v
+    → AreShown round (items_view vs) ts → (t : TreeV) × IsShown round (view v) t
 item_shown round [] at v ts low is all = absurd (omega arith)
 item_shown round (w ∷ vs) at v none low is all = absurd (let e = all.shown in cc)
 item_shown round (w ∷ vs) zero v (more t ts) low is all =

@@ -12,7 +12,8 @@ use Rattle.csn_json.specs.Reading.{IsShown, Refuses}
 pub is_text : (text : List ℕ) (value : Data) (t : TreeV) → IsJson text value → IsShown 0 value t → JsonText t text
 is_text text value t json is = (value, json, record { fits = is.fits; parts = is.parts; shown = is.shown })
 
-pub is_fault : (text : List ℕ) (value : Data) (fault : JsonFault) → IsJson text value → Refuses fault ((t : TreeV) → IsShown 0 value t → ⊥) → IsFaultOf text fault
+pub is_fault : (text : List ℕ) (value : Data) (fault : JsonFault)
+    → IsJson text value → Refuses fault ((t : TreeV) → IsShown 0 value t → ⊥) → IsFaultOf text fault
 is_fault text value NotJson json h = absurd h
 is_fault text value NotTree json h = (value, json, λ t is. h t (record { fits = is.fits; parts = is.parts; shown = is.shown }))
 is_fault text value NoMemory json h = tt

@@ -43,7 +43,8 @@ mutual
 
 -- ---- rows
 
-push_item : (vs : List Value) (v : Value) (ts : List TreeV) (t : TreeV) → items_view vs ≡ items_of (trees_of ts) → view v ≡ json_of t → items_view (vs ++ v ∷ []) ≡ items_of (trees_of (ts ++ t ∷ []))
+push_item : (vs : List Value) (v : Value) (ts : List TreeV) (t : TreeV) → items_view vs ≡ items_of (trees_of ts)
+    → view v ≡ json_of t → items_view (vs ++ v ∷ []) ≡ items_of (trees_of (ts ++ t ∷ []))
 push_item [] v [] t all this = ap (λ d. item d no_items) this
 push_item [] v (u ∷ ts) t all this = absurd (cc)
 push_item (w ∷ vs) v [] t all this = absurd (cc)
@@ -53,7 +54,8 @@ push_item (w ∷ vs) v (u ∷ ts) t all this =
     ap (λ d. item d (items_view (vs ++ v ∷ []))) first ∙ ap (item (json_of u)) rest
 
 -- the values of a row's first trees, and of one more
-pub next_item : (vs : List Value) (v : Value) (trees : List TreeV) (at : ℕ) (t : TreeV) → slice_get trees at ≡ Some t → items_view vs ≡ items_of (trees_of (take at trees)) → view v ≡ json_of t
+pub next_item : (vs : List Value) (v : Value) (trees : List TreeV) (at : ℕ) (t : TreeV)
+    → slice_get trees at ≡ Some t → items_view vs ≡ items_of (trees_of (take at trees)) → view v ≡ json_of t
     → items_view (vs ++ v ∷ []) ≡ items_of (trees_of (take (at + 1) trees))
 next_item vs v trees at t here all this =
     let count : at + 1 ≡ suc at = omega arith in

@@ -1,5 +1,6 @@
 -- What is written for a tree is read back as its value.
-use Rattle.std.proofs.Common.{◌≡◌, ℕ, suc, ◌<◌, ◌≤◌, nat_le, Bool, true, false, List, [], ◌∷◌, ◌++◌, codes, Some, option_and_then, IsUtf8, refl, sym, ap, ◌∙◌, subst, arith, append-nil}
+use Rattle.std.proofs.Common.{◌≡◌, ℕ, suc, ◌<◌, ◌≤◌, nat_le, Bool, true, false, List, [], ◌∷◌, ◌++◌, codes, Some}
+use Rattle.std.proofs.Common.{option_and_then, IsUtf8, refl, sym, ap, ◌∙◌, subst, arith, append-nil}
 use Rattle.std.specs.List.{list_all}
 use Rattle.std.proofs.lemmas.Fmt.{IsAscii-decimal}
 use Rattle.std.proofs.lemmas.Str.{IsUtf8-from_ascii, IsUtf8-append, IsUtf8-nil}
@@ -16,7 +17,8 @@ use Rattle.csn_bits.specs.Line.{written}
 use Rattle.csn_desc.specs.TreeV.{TreeV, empty, bits, row, alt, named, Trees, none, more}
 use Rattle.csn_desc.specs.TreeParts.{HasTreeParts, AllHaveTreeParts}
 use Rattle.csn_treetext.specs.Fits.{Fits, FitsInside, AllFitInside}
-use Rattle.serde_json.specs.Data.{Data, null, boolean, number, string, array, object, unsigned, Items, no_items, item, Members, no_members, member, depth, items_depth, members_depth}
+use Rattle.serde_json.specs.Data.{Data, null, boolean, number, string, array, object, unsigned, Items, no_items, item}
+use Rattle.serde_json.specs.Data.{Members, no_members, member, depth, items_depth, members_depth}
 use Rattle.serde_json.specs.Read.{read, max_depth, of_json, of_items}
 use Rattle.serde_json.specs.Written.{outline, items_outline, members_outline, compact_text, items_text, comma_if}
 use Rattle.serde_json.proofs.Numbers.{number_of-decimal}
@@ -98,11 +100,13 @@ byte_before : (c : ℕ) (rest : List ℕ) → c < 128 → IsUtf8 rest → IsUtf8
 byte_before c rest low is = IsUtf8-append (c ∷ []) rest (IsUtf8-from_ascii _ (IsAscii-cons c [] low IsAscii-nil)) is
 
 -- a member behind its comma
-member_utf8 : (later : Bool) (k : List ℕ) (text rest : List ℕ) → IsUtf8 k → IsUtf8 text → IsUtf8 rest → IsUtf8 (comma_if later ++ (quoted k ++ 58 ∷ (text ++ rest)))
+member_utf8 : (later : Bool) (k : List ℕ) (text rest : List ℕ) → IsUtf8 k → IsUtf8 text → IsUtf8 rest
+    → IsUtf8 (comma_if later ++ (quoted k ++ 58 ∷ (text ++ rest)))
 member_utf8 later k text rest key is after =
     IsUtf8-append _ _ (comma_utf8 later) (IsUtf8-append _ _ (IsUtf8-quoted k key) (byte_before 58 _ (omega arith) (IsUtf8-append _ _ is after)))
 
-tagged_utf8 : (key : List ℕ) (of inside : Data) → IsUtf8 key → IsUtf8 (compact_text of) → IsUtf8 (compact_text inside) → IsUtf8 (compact_text (tagged key of inside))
+tagged_utf8 : (key : List ℕ) (of inside : Data) → IsUtf8 key → IsUtf8 (compact_text of) → IsUtf8 (compact_text inside)
+    → IsUtf8 (compact_text (tagged key of inside))
 tagged_utf8 key of inside k is below =
     byte_before 123 _ (omega arith)
     (member_utf8 false key _ _ k is

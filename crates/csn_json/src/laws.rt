@@ -1,6 +1,7 @@
 //! Laws over trees as JSON, each the contract of a function that does nothing.
 
-ghost use Rattle.csn_json.specs.Laws.{TreesHaveOneValue, ValuesHaveOneTree, TextsAreDecided, TextsHaveOneTree, TextsAreJoined, TextsAreNotRefused, TreeTextsShareTrees, WrittenIsShown};
+ghost use Rattle.csn_json.specs.Laws.{TreesHaveOneValue, ValuesHaveOneTree, TextsAreDecided, TextsHaveOneTree};
+ghost use Rattle.csn_json.specs.Laws.{TextsAreJoined, TextsAreNotRefused, TreeTextsShareTrees, WrittenIsShown};
 
 /// A tree has one value, a value shows one tree, and so does a text.
 pub fn texts_have_one_tree()

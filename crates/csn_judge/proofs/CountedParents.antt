@@ -1,5 +1,7 @@
 -- A label that counts stand on is a part of a sequence or truncation.
-use Rattle.std.proofs.Common.{◌≡◌, ℕ, suc, ◌<◌, ◌≤◌, inl, inr, Bool, true, false, if◌then◌else◌, eqb-true, List, [], ◌∷◌, ◌++◌, length, refl, sym, ◌∙◌, ap, subst, arith, append_assoc, Option, Some, slice_get, Contains}
+use Rattle.std.proofs.Common.{◌≡◌, ℕ, suc, ◌<◌, ◌≤◌, inl, inr, Bool, true, false, if◌then◌else◌, eqb-true, List, []}
+use Rattle.std.proofs.Common.{◌∷◌, ◌++◌, length, refl, sym, ◌∙◌, ap, subst, arith, append_assoc, Option, Some}
+use Rattle.std.proofs.Common.{slice_get, Contains}
 use Rattle.std.proofs.lemmas.Bool.Decides.{leb_tells}
 use Rattle.std.proofs.lemmas.Option.{slice_get_within}
 use Rattle.csn_desc.specs.declared.node.Count.{Count}
@@ -8,7 +10,9 @@ use Rattle.csn_desc.specs.declared.node.Node.{Node}
 use Rattle.csn_desc.specs.declared.node.Node.TheVariants.{Lits, Spare, Pad, Null, Field, Rest, Seq, Choice, Times, Many, Trunc, Window, Named}
 use Rattle.csn_desc.specs.Nodes.{DescV, head_of, parts_of}
 use Rattle.csn_desc.specs.Values.{Values, is_named}
-use Rattle.csn_desc.specs.Formed.{is_counted, counts_on, node_counts_on, shows_earlier, with_seen, Spans, PartsSpan, spans, span_end, span_next, IsCount, IsHead, Formed, PartsFormed, formed, formed_next, IsDescription}
+use Rattle.csn_desc.specs.Formed.{is_counted, counts_on, node_counts_on, shows_earlier, with_seen, Spans, PartsSpan}
+use Rattle.csn_desc.specs.Formed.{spans, span_end, span_next, IsCount, IsHead, Formed, PartsFormed, formed}
+use Rattle.csn_desc.specs.Formed.{formed_next, IsDescription}
 use Rattle.csn_desc.proofs.Numbering.{part_from, span_inside}
 use Rattle.csn_desc.proofs.Parents.{one_parent}
 use Rattle.csn_certify.proofs.CountedValues.{contains_cases, counter, formed_head}
@@ -70,13 +74,26 @@ module _ (nodes : List Node) where
               parts_placed i k m is [] (parts_of m) refl refl (subst P same parts) others shown (omega (arith, high.1)) within
         ]
 
-    parts_placed : (K : ℕ) {at end : ℕ} {shows : Bool} {seen : List ℕ} {round : ℕ} (k : ℕ) (n : Node) → slice_get nodes K ≡ Some n → (before parts : List ℕ) → parts_of n ≡ before ++ parts
+    parts_placed : (K : ℕ) {at end : ℕ} {shows : Bool} {seen : List ℕ} {round : ℕ} (k : ℕ) (n : Node)
+        → slice_get nodes K ≡ Some n → (before parts : List ℕ) → parts_of n ≡ before ++ parts
         → shows ≡ shows_earlier n → PartsSpan nodes parts at end → PartsFormed nodes shows seen round parts → AllShown seen → at ≤ k → k < end → Placed k
     parts_placed K k n look before [] split same (span_end e) others shown from within = absurd (omega (arith, e))
-    parts_placed K {shows = shows} {seen = seen} k n look before (i ∷ parts) split same (span_next middle e h others) (formed_next first rest) shown from within =
-        let own : shows ≡ true → ShownBy i = λ e. record { parent = K; place = length before; node = n; at = look; shows = sym same ∙ e; part = ap (λ l. slice_get l (length before)) split ∙ part_at before i parts } in
+    parts_placed K {shows = shows} {seen = seen} k n look before (i ∷ parts) split same (span_next middle e h others)
+        (formed_next first rest) shown from within =
+        let own : shows ≡ true → ShownBy i = λ e. record {
+          parent = K;
+          place = length before;
+          node = n;
+          at =
+              look;
+          shows = sym same ∙ e;
+          part = ap (λ l. slice_get l (length before)) split
+              ∙ part_at before i parts;
+        } in
         elim (leb_tells middle k) [
-          | inl behind ↦ parts_placed K k n look (before ++ i ∷ []) parts (split ∙ sym (append_assoc before (i ∷ []) parts)) same others rest (seen_shown i seen shows own shown) behind.1 within
+          | inl behind ↦ parts_placed K k n look (before ++ i ∷ []) parts
+              (split ∙ sym (append_assoc before (i ∷ []) parts)) same others rest (seen_shown i seen shows own shown)
+              behind.1 within
           | inr inside ↦ placed k h first shown (omega (arith, e, from)) inside.1
         ]
 
@@ -116,7 +133,8 @@ module _ (d : DescV) (is : IsDescription d) where
       let p = placed d.nodes c.at is.numbered is.well_formed (none_shown d.nodes) (omega arith) (slice_get_within d.nodes c.at c.node c.look) in
       p.shown i (node_sees d.nodes p.seen i c.node c.holds (formed_head d c.node c.look p.is))
 
-  other_parent : {i : ℕ} (k j : ℕ) {n : Node} → is_counted d.nodes i ≡ true → slice_get d.nodes k ≡ Some n → slice_get (parts_of n) j ≡ Some i → shows_earlier n ≡ false → ⊥
+  other_parent : {i : ℕ} (k j : ℕ) {n : Node} → is_counted d.nodes i ≡ true → slice_get d.nodes k ≡ Some n
+      → slice_get (parts_of n) j ≡ Some i → shows_earlier n ≡ false → ⊥
   other_parent {i} k j {n} counted at part hides =
       let s = counted_shown i counted in
       let same = one_parent d k s.parent j s.place i n s.node is at s.at part s.part in
@@ -133,7 +151,8 @@ module _ (d : DescV) (is : IsDescription d) where
       absurd (omega (arith, root, part_rises d.nodes s.node s.place i s.at inner.span s.part))
 
   -- it begins inside one
-  pub counted_began : {fresh : Option ℕ} {outer : List Left} {i from : ℕ} {v : Values} → is_counted d.nodes i ≡ true → Inside d fresh outer i from v → BeganAt d i from outer
+  pub counted_began : {fresh : Option ℕ} {outer : List Left} {i from : ℕ} {v : Values}
+      → is_counted d.nodes i ≡ true → Inside d fresh outer i from v → BeganAt d i from outer
   counted_began counted (inside_none none root start sees) = absurd (root_alone (counted_shown _ counted) root)
   counted_began counted (inside_choice k j parts at here ready inner) = absurd (other_parent k j counted at here refl)
   counted_began counted (inside_label k at ready inner) = absurd (other_parent k 0 counted at refl refl)

@@ -1,5 +1,6 @@
 -- A choice decides by the bits at hand: the alternative whose key they begin with, or the one that takes none.
-use Rattle.std.proofs.Common.{◌≡◌, ℕ, suc, ◌+◌, ◌%◌, ◌<◌, ◌≤◌, ◌⊎◌, inl, inr, Bool, false, List, [], ◌∷◌, ◌++◌, length, refl, sym, ap, subst, arith, append-nil, length-append, Option, Some, slice_get}
+use Rattle.std.proofs.Common.{◌≡◌, ℕ, suc, ◌+◌, ◌%◌, ◌<◌, ◌≤◌, ◌⊎◌, inl, inr, Bool, false, List, [], ◌∷◌, ◌++◌}
+use Rattle.std.proofs.Common.{length, refl, sym, ap, subst, arith, append-nil, length-append, Option, Some, slice_get}
 use Rattle.csn_desc.specs.declared.node.Node.TheVariants.{Choice}
 use Rattle.csn_desc.specs.Nodes.{DescV}
 use Rattle.csn_desc.specs.Values.{Values}
@@ -9,7 +10,8 @@ use Rattle.csn_look.specs.Keys.{InKeys}
 use Rattle.csn_desc.proofs.Nodewise.{parts_there}
 use Rattle.csn_certify.specs.declared.pick.Pick.{Pick}
 use Rattle.csn_certify.specs.declared.pick.Pick.TheVariants.{Take, Wait, Refuse}
-use Rattle.csn_certify.specs.Picks.{BeginsWithKey, StandsBehind, behind_bit, TakesNone, Picks, pick_key, pick_none, pick_wait, pick_refuse, pick_again, pick_leave}
+use Rattle.csn_certify.specs.Picks.{BeginsWithKey, StandsBehind, behind_bit, TakesNone, Picks, pick_key, pick_none}
+use Rattle.csn_certify.specs.Picks.{pick_wait, pick_refuse, pick_again, pick_leave}
 use Rattle.csn_certify.specs.CountedValues.{fields_of}
 use Rattle.csn_certify.proofs.CountedValues.{fields_have_values}
 use Rattle.csn_certify.proofs.MoreHeld.{key_on}
@@ -24,7 +26,8 @@ use Rattle.csn_judge.proofs.Turning.{moving}
 
 module _ (d : DescV) where
   -- a choice has alternatives
-  pub has_alternatives : {seen : List ℕ} {round k : ℕ} (parts : List ℕ) → slice_get d.nodes k ≡ Some (Choice parts) → Formed d.nodes seen round k → 2 ≤ length parts
+  pub has_alternatives : {seen : List ℕ} {round k : ℕ} (parts : List ℕ) → slice_get d.nodes k ≡ Some (Choice parts)
+      → Formed d.nodes seen round k → 2 ≤ length parts
   has_alternatives parts at is = parts_there d.nodes at is
 
   -- the choice that is open is the node of the frame: its first alternative is the node behind it
@@ -44,7 +47,9 @@ module _ (d : DescV) where
           let second = first_next d 12 known.description known.certified other refl in
           omega (arith, first, second)
 
-  none_longer : {node octet bit i : ℕ} {parts rest : List ℕ} (more : List ℕ) → TakesNone d 12 node parts octet (bit ∷ rest) false i → TakesNone d 12 node parts octet ((bit ∷ rest) ++ more) false i
+  none_longer : {node octet bit i : ℕ} {parts rest : List ℕ} (more : List ℕ)
+      → TakesNone d 12 node parts octet (bit ∷ rest) false i → TakesNone d 12 node parts octet ((bit ∷ rest) ++ more)
+      false i
   none_longer more none = record { part = none.part; is_part = none.is_part; is_null = none.is_null; behind = by none.behind }
     where
       by : {node octet bit : ℕ} {rest : List ℕ} → StandsBehind d 12 node octet (bit ∷ rest) false → StandsBehind d 12 node octet ((bit ∷ rest) ++ more) false
@@ -52,7 +57,8 @@ module _ (d : DescV) where
 
   -- what is taken is an alternative whose key they begin with, or the one that takes none
   takes_of : {k octet bit j : ℕ} {parts rest : List ℕ} → slice_get d.nodes k ≡ Some (Choice parts) → Picks d 12 k octet (bit ∷ rest) false (Take j)
-      → BeginsWithKey d 12 parts octet (bit ∷ rest) j ⊎ (((i : ℕ) → ¬ BeginsWithKey d 12 parts octet (bit ∷ rest) i) × TakesNone d 12 k parts octet (bit ∷ rest) false j)
+      → BeginsWithKey d 12 parts octet (bit ∷ rest) j ⊎ (((i : ℕ) → ¬ BeginsWithKey d 12 parts octet (bit ∷ rest) i)
+      × TakesNone d 12 k parts octet (bit ∷ rest) false j)
   takes_of {octet = octet} {bit} {j} {parts} {rest} at (pick_key some here key) =
       let same : some ≡ parts = cc in
       let P : List ℕ → Type 0 = λ l. BeginsWithKey d 12 l octet (bit ∷ rest) j in
@@ -77,11 +83,13 @@ module _ (d : DescV) where
       ]
 
   -- where it does not refuse bits, and refuses one more, it waits with them
-  pub waits_or_refuses : {k octet : ℕ} {answer : Pick} {parts : List ℕ} (alike : List ℕ) (bit : ℕ) → 0 < length alike → slice_get d.nodes k ≡ Some (Choice parts)
+  pub waits_or_refuses : {k octet : ℕ} {answer : Pick} {parts : List ℕ} (alike : List ℕ) (bit : ℕ)
+      → 0 < length alike → slice_get d.nodes k ≡ Some (Choice parts)
       → Picks d 12 k octet alike false answer → ¬ (answer ≡ Refuse) → Picks d 12 k octet (alike ++ bit ∷ []) false Refuse → Picks d 12 k octet alike false Wait
   waits_or_refuses [] bit some at picks not more = absurd (omega (arith, some))
   waits_or_refuses (b ∷ alike) bit some at (pick_key parts here key) not more = absurd (not_refused (bit ∷ []) at (pick_key parts here key) more)
-  waits_or_refuses (b ∷ alike) bit some at (pick_none parts here never none) not more = absurd (not_refused (bit ∷ []) at (pick_none parts here never none) more)
+  waits_or_refuses (b ∷ alike) bit some at (pick_none parts here never none) not more =
+      absurd (not_refused (bit ∷ []) at (pick_none parts here never none) more)
   waits_or_refuses (b ∷ alike) bit some at (pick_wait parts here never none going begins) not more = pick_wait parts here never none going begins
   waits_or_refuses (b ∷ alike) bit some at (pick_refuse parts here never none begins) not more = absurd (not refl)
   waits_or_refuses (b ∷ alike) bit some at (pick_again part many start) not more = absurd (cc)
@@ -118,7 +126,8 @@ module _ (d : DescV) where
             inner = begun.inner;
             some = some;
             picks = picks;
-            within = within_less outer (length done + length word) (length done + length (bit ∷ rest)) (omega (arith, ap (λ l. length l) e, length-append word more)) within;
+            within = within_less outer (length done + length word) (length done + length (bit ∷ rest))
+                (omega (arith, ap (λ l. length l) e, length-append word more)) within;
             fronts = fronts;
           };
         }
@@ -149,9 +158,18 @@ module _ (d : DescV) where
     pub decided : Picks d 12 k (length done % 8) (bit ∷ rest) false (Take j) → Decided k part j parts v outer done (bit ∷ rest) known
     decided picks = elim (takes_of at picks) [ inl key ↦ by_key key | inr none ↦ by_none none.0 none.1 ]
       where
-        by_none : ((i : ℕ) → ¬ BeginsWithKey d 12 parts (length done % 8) (bit ∷ rest) i) → TakesNone d 12 k parts (length done % 8) (bit ∷ rest) false j → Decided k part j parts v outer done (bit ∷ rest) known
+        by_none : ((i : ℕ) → ¬ BeginsWithKey d 12 parts (length done % 8) (bit ∷ rest) i)
+            → TakesNone d 12 k parts (length done % 8) (bit ∷ rest) false j → Decided k part j parts v outer done
+            (bit ∷ rest) known
         by_none never found =
-            one_decides (pick_none parts at (λ i key. never i (key_on d 12 (rest, refl) key)) (record { part = found.part; is_part = found.is_part; is_null = found.is_null; behind = by found.behind }))
+            one_decides (pick_none parts at (λ i key. never i (key_on d 12 (rest, refl) key))
+            (record {
+              part = found.part;
+              is_part = found.is_part;
+              is_null = found.is_null;
+              behind =
+                  by found.behind;
+            }))
           where
             by : StandsBehind d 12 k (length done % 8) (bit ∷ rest) false → StandsBehind d 12 k (length done % 8) (bit ∷ []) false
             by (behind_bit follows) = behind_bit follows
@@ -164,5 +182,11 @@ module _ (d : DescV) where
             (pick_key parts at (record { own = found.own; takes_bits = found.takes_bits; begins = ([], sym (append-nil found.word)) }))
           where
             first : (word : List ℕ) → found.word ≡ word → Picks d 12 k (length done % 8) (bit ∷ []) false (Take j) ⊎ (0 < length found.word)
-            first [] none = inl (pick_key parts at (record { own = found.own; takes_bits = found.takes_bits; begins = (bit ∷ [], ap (λ l. l ++ bit ∷ []) (sym none)) }))
+            first [] none =
+                inl (pick_key parts at (record {
+                  own = found.own;
+                  takes_bits = found.takes_bits;
+                  begins =
+                      (bit ∷ [], ap (λ l. l ++ bit ∷ []) (sym none));
+                }))
             first (a ∷ word) some = inr (omega (arith, ap (λ l. length l) some))

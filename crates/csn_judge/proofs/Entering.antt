@@ -1,5 +1,6 @@
 -- A node is entered: what is left of it then, for each kind of node that has no part yet.
-use Rattle.std.proofs.Common.{◌≡◌, ℕ, ◌-◌, ◌*◌, false, List, [], ◌∷◌, ◌++◌, length, map, refl, sym, ◌∙◌, ap, subst, arith, append-nil, length-append, Some, slice_get}
+use Rattle.std.proofs.Common.{◌≡◌, ℕ, ◌-◌, ◌*◌, false, List, [], ◌∷◌, ◌++◌, length, map, refl, sym, ◌∙◌, ap, subst}
+use Rattle.std.proofs.Common.{arith, append-nil, length-append, Some, slice_get}
 use Rattle.std.specs.Prelude.{replicate}
 use Rattle.std.proofs.lemmas.List.{length-replicate}
 use Rattle.csn_desc.specs.declared.symbol.Symbol.{Symbol}
@@ -14,13 +15,23 @@ use Rattle.csn_desc.specs.TreeV as tree
 use Rattle.csn_desc.specs.Nodes.{DescV}
 use Rattle.csn_desc.specs.Spelled.{spelled, IsSpare}
 use Rattle.csn_desc.specs.Values.{Values, count_of}
-use Rattle.csn_desc.specs.Means.{NMeans, NodeMeans, TimesMean, LeadMean, means_at, means_lits, means_spare, means_pad, means_null, means_field, means_rest, means_choice, means_times, means_many, means_cut, means_trunc}
+use Rattle.csn_desc.specs.Means.{NMeans, NodeMeans, TimesMean, LeadMean, means_at, means_lits, means_spare, means_pad}
+use Rattle.csn_desc.specs.Means.{means_null, means_field, means_rest, means_choice, means_times, means_many}
+use Rattle.csn_desc.specs.Means.{means_cut, means_trunc}
 use Rattle.csn_desc.specs.Laws.{TreesHaveMoves}
-use Rattle.csn_desc.specs.Follows.{NFollow, NodeFollows, TimesFollow, follows_at, follows_whole, follows_lits, follows_spare, follows_pad, follows_field, follows_choice, follows_times, follows_many, follows_trunc}
-use Rattle.csn_desc.specs.Walks.{Walk, NodeWalk, walk_at, walk_lits, walk_spare, walk_pad, walk_null, walk_field, walk_rest, walk_times, walk_many, walk_trunc, lead_end, lead_next}
+use Rattle.csn_desc.specs.Follows.{NFollow, NodeFollows, TimesFollow, follows_at, follows_whole, follows_lits}
+use Rattle.csn_desc.specs.Follows.{follows_spare, follows_pad, follows_field, follows_choice, follows_times}
+use Rattle.csn_desc.specs.Follows.{follows_many, follows_trunc}
+use Rattle.csn_desc.specs.Walks.{Walk, NodeWalk, walk_at, walk_lits, walk_spare, walk_pad, walk_null, walk_field}
+use Rattle.csn_desc.specs.Walks.{walk_rest, walk_times, walk_many, walk_trunc, lead_end, lead_next}
 use Rattle.csn_desc.proofs.Nodewise.{meaning_at, follow_at}
 use Rattle.csn_desc.proofs.BitFacts.{IsBits-front, IsBits-along, spelled_is_spare}
-use Rattle.csn_judge.specs.Left.{Left, all_left, bits_left, symbols_left, spare_left, pad_left, rest_left, choice_left, none_left, turns_left, free_left, cut_left, Completes, completes_all, completes_bits, completes_symbols, completes_spare, completes_pad, completes_rest, completes_choice, completes_none, completes_turns, completes_free, completes_cut, completes_lead, Begins, begins_whole, begins_all, begins_bits, begins_symbols, begins_spare, begins_pad, begins_choice, begins_turns, begins_free, begins_cut}
+use Rattle.csn_judge.specs.Left.{Left, all_left, bits_left, symbols_left, spare_left, pad_left, rest_left}
+use Rattle.csn_judge.specs.Left.{choice_left, none_left, turns_left, free_left, cut_left, Completes, completes_all}
+use Rattle.csn_judge.specs.Left.{completes_bits, completes_symbols, completes_spare, completes_pad, completes_rest}
+use Rattle.csn_judge.specs.Left.{completes_choice, completes_none, completes_turns, completes_free, completes_cut}
+use Rattle.csn_judge.specs.Left.{completes_lead, Begins, begins_whole, begins_all, begins_bits, begins_symbols}
+use Rattle.csn_judge.specs.Left.{begins_spare, begins_pad, begins_choice, begins_turns, begins_free, begins_cut}
 use Rattle.csn_judge.specs.Remains.{IsUpTo}
 use Rattle.csn_judge.proofs.StepFacts.{Replaces, completes_from, begins_from}
 use Rattle.csn_judge.proofs.Leaves.{spare_front}
@@ -43,16 +54,19 @@ module _ (d : DescV) where
     pub told : Told n o v b inside
     pub is : moves ≡ Enter i ∷ (inside ++ Leave ∷ [])
 
-  pub opened : {n : Node} {i : ℕ} {v : Values} {done b : List ℕ} {moves : List Move} → slice_get d.nodes i ≡ Some n → Completes d (all_left i v) done b moves → Outer n i (length done) v b moves
+  pub opened : {n : Node} {i : ℕ} {v : Values} {done b : List ℕ} {moves : List Move} → slice_get d.nodes i ≡ Some n
+      → Completes d (all_left i v) done b moves → Outer n i (length done) v b moves
   opened {n} {done = done} at (completes_all t means (walk_at m inside there walks is)) =
       let same : m ≡ n = cc in
       let P : Node → Type 0 = λ k. NodeWalk d k (length done) t inside in
       record { inside = inside; told = record { tree = t; means = meaning_at d at means; walks = subst P same walks }; is = is }
 
-  pub closed : {n : Node} {i : ℕ} {v : Values} {done b : List ℕ} {moves : List Move} → slice_get d.nodes i ≡ Some n → Outer n i (length done) v b moves → Completes d (all_left i v) done b moves
+  pub closed : {n : Node} {i : ℕ} {v : Values} {done b : List ℕ} {moves : List Move} → slice_get d.nodes i ≡ Some n
+      → Outer n i (length done) v b moves → Completes d (all_left i v) done b moves
   closed {n} at o = completes_all o.told.tree (means_at n at o.told.means) (walk_at n o.inside at o.told.walks o.is)
 
-  pub follows_node : {n : Node} {i : ℕ} {v : Values} {done b : List ℕ} → slice_get d.nodes i ≡ Some n → Begins d (all_left i v) done b → NodeFollows d n (length done) v b
+  pub follows_node : {n : Node} {i : ℕ} {v : Values} {done b : List ℕ} → slice_get d.nodes i ≡ Some n
+      → Begins d (all_left i v) done b → NodeFollows d n (length done) v b
   follows_node at (begins_all f) = follow_at d at f
   follows_node at (begins_whole moves h) = let o = opened at h in follows_whole o.told.tree o.told.means
 
@@ -64,7 +78,8 @@ module _ (d : DescV) where
     pub begun : (b : List ℕ) → Begins d new done b → NodeFollows d n (length done) v b
     pub up : (place : ℕ) → IsUpTo new place
 
-  pub enters : {n : Node} {v : Values} {done : List ℕ} {new : Left} (i : ℕ) → slice_get d.nodes i ≡ Some n → Enters n v done new → Replaces d (all_left i v) new done [] (Enter i ∷ [])
+  pub enters : {n : Node} {v : Values} {done : List ℕ} {new : Left} (i : ℕ) → slice_get d.nodes i ≡ Some n
+      → Enters n v done new → Replaces d (all_left i v) new done [] (Enter i ∷ [])
   enters {n} {v} {done} {new} i at e =
       record {
         completes = λ b moves h.
@@ -84,7 +99,9 @@ module _ (d : DescV) where
   whole inner = follows_whole inner.told.tree inner.told.means
 
   -- a whole meaning of the node has moves, and so completes its form
-  pub told_whole : {n : Node} (i : ℕ) {o : ℕ} {v : Values} {b : List ℕ} {t : TreeV} → TreesHaveMoves → slice_get d.nodes i ≡ Some n → NodeMeans d n o v b t → (inside : List Move) × Told n o v b inside
+  pub told_whole : {n : Node} (i : ℕ) {o : ℕ} {v : Values} {b : List ℕ} {t : TreeV}
+      → TreesHaveMoves → slice_get d.nodes i ≡ Some n → NodeMeans d n o v b t → (inside : List Move)
+      × Told n o v b inside
   told_whole {n} i {o} {v} {b} {t} some at h =
       let found = some d i o v b t (means_at n at h) in inside_of found.1
     where
@@ -101,7 +118,8 @@ module _ (d : DescV) where
       on : (b : List ℕ) (inside : List Move) → Told (Lits run) (length done) v b inside → Completes d (symbols_left run) done b (inside ++ Leave ∷ [])
       on b inside told = by told.means told.walks
         where
-          by : {t : TreeV} → NodeMeans d (Lits run) (length done) v b t → NodeWalk d (Lits run) (length done) t inside → Completes d (symbols_left run) done b (inside ++ Leave ∷ [])
+          by : {t : TreeV} → NodeMeans d (Lits run) (length done) v b t → NodeWalk d (Lits run) (length done) t inside
+              → Completes d (symbols_left run) done b (inside ++ Leave ∷ [])
           by (means_lits same) (walk_lits is) = completes_symbols same (ap (λ l. l ++ Leave ∷ []) (is ∙ ap (λ l. map Bit l) (sym same)))
 
       back : (b : List ℕ) (moves : List Move) → Completes d (symbols_left run) done b moves → Inner (Lits run) (length done) v b moves
@@ -123,7 +141,8 @@ module _ (d : DescV) where
       on : (b : List ℕ) (inside : List Move) → Told Null (length done) v b inside → Completes d none_left done b (inside ++ Leave ∷ [])
       on b inside told = by told.means told.walks
         where
-          by : {t : TreeV} → NodeMeans d Null (length done) v b t → NodeWalk d Null (length done) t inside → Completes d none_left done b (inside ++ Leave ∷ [])
+          by : {t : TreeV} → NodeMeans d Null (length done) v b t → NodeWalk d Null (length done) t inside
+              → Completes d none_left done b (inside ++ Leave ∷ [])
           by (means_null same) (walk_null is) = completes_none same (ap (λ l. l ++ Leave ∷ []) is)
 
       back : (b : List ℕ) (moves : List Move) → Completes d none_left done b moves → Inner Null (length done) v b moves
@@ -143,7 +162,8 @@ module _ (d : DescV) where
       on b inside told = completes_choice told.tree told.means told.walks refl
 
       back : (b : List ℕ) (moves : List Move) → Completes d (choice_left parts v) done b moves → Inner (Choice parts) (length done) v b moves
-      back b moves (completes_choice {inside = inside} t means walks is) = record { inside = inside; told = record { tree = t; means = means; walks = walks }; is = is }
+      back b moves (completes_choice {inside = inside} t means walks is) =
+          record { inside = inside; told = record { tree = t; means = means; walks = walks }; is = is }
 
       forth : (b : List ℕ) → NodeFollows d (Choice parts) (length done) v b → Begins d (choice_left parts v) done b
       forth b (follows_choice {i = i} j at f) = begins_choice j i at f
@@ -156,17 +176,22 @@ module _ (d : DescV) where
       home b (begins_choice j i at f) = follows_choice j at f
       home b (begins_whole moves h) = whole (back b moves h)
 
-  pub enter_turns : (count : Count) (part n i : ℕ) (v : Values) (done : List ℕ) → TreesHaveMoves → slice_get d.nodes i ≡ Some (Times count part) → count_of v count ≡ Some n → Enters (Times count part) v done (turns_left n part v)
+  pub enter_turns : (count : Count) (part n i : ℕ) (v : Values) (done : List ℕ)
+      → TreesHaveMoves → slice_get d.nodes i ≡ Some (Times count part)
+      → count_of v count ≡ Some n → Enters (Times count part) v done (turns_left n part v)
   enter_turns count part n i v done some at counts =
       record { completes = on; completed = back; begins = forth; begun = home; up = λ place. tt }
     where
-      turns_along : {m : ℕ} (b : List ℕ) (ts : Trees) → count_of v count ≡ Some m → TimesMean d m part (length done) v b ts → TimesMean d n part (length done) v b ts
+      turns_along : {m : ℕ} (b : List ℕ) (ts : Trees) → count_of v count ≡ Some m → TimesMean d m part (length done)
+          v b ts → TimesMean d n part (length done) v b ts
       turns_along {m} b ts count_m h = let same : m ≡ n = cc in let P : ℕ → Type 0 = λ k. TimesMean d k part (length done) v b ts in subst P same h
 
-      on : (b : List ℕ) (inside : List Move) → Told (Times count part) (length done) v b inside → Completes d (turns_left n part v) done b (inside ++ Leave ∷ [])
+      on : (b : List ℕ) (inside : List Move) → Told (Times count part) (length done) v b inside
+          → Completes d (turns_left n part v) done b (inside ++ Leave ∷ [])
       on b inside told = by told.means told.walks
         where
-          by : {t : TreeV} → NodeMeans d (Times count part) (length done) v b t → NodeWalk d (Times count part) (length done) t inside → Completes d (turns_left n part v) done b (inside ++ Leave ∷ [])
+          by : {t : TreeV} → NodeMeans d (Times count part) (length done) v b t → NodeWalk d (Times count part)
+              (length done) t inside → Completes d (turns_left n part v) done b (inside ++ Leave ∷ [])
           by (means_times {ts = ts} m count_m h) (walk_times walks) = completes_turns ts (turns_along b ts count_m h) walks refl
 
       back : (b : List ℕ) (moves : List Move) → Completes d (turns_left n part v) done b moves → Inner (Times count part) (length done) v b moves
@@ -184,14 +209,16 @@ module _ (d : DescV) where
       home b (begins_turns f) = follows_times n counts f
       home b (begins_whole moves h) = whole (back b moves h)
 
-  pub enter_free : (part i : ℕ) (v : Values) (done : List ℕ) → TreesHaveMoves → slice_get d.nodes i ≡ Some (Many part) → Enters (Many part) v done (free_left part v)
+  pub enter_free : (part i : ℕ) (v : Values) (done : List ℕ) → TreesHaveMoves → slice_get d.nodes i ≡ Some (Many part)
+      → Enters (Many part) v done (free_left part v)
   enter_free part i v done some at =
       record { completes = on; completed = back; begins = forth; begun = home; up = λ place. tt }
     where
       on : (b : List ℕ) (inside : List Move) → Told (Many part) (length done) v b inside → Completes d (free_left part v) done b (inside ++ Leave ∷ [])
       on b inside told = by told.means told.walks
         where
-          by : {t : TreeV} → NodeMeans d (Many part) (length done) v b t → NodeWalk d (Many part) (length done) t inside → Completes d (free_left part v) done b (inside ++ Leave ∷ [])
+          by : {t : TreeV} → NodeMeans d (Many part) (length done) v b t → NodeWalk d (Many part) (length done)
+              t inside → Completes d (free_left part v) done b (inside ++ Leave ∷ [])
           by (means_many {ts = ts} h) (walk_many walks) = completes_free ts h walks refl
 
       back : (b : List ℕ) (moves : List Move) → Completes d (free_left part v) done b moves → Inner (Many part) (length done) v b moves
@@ -206,14 +233,17 @@ module _ (d : DescV) where
       home b (begins_free f) = follows_many f
       home b (begins_whole moves h) = whole (back b moves h)
 
-  pub enter_cut : (parts : List ℕ) (i : ℕ) (v : Values) (done : List ℕ) → TreesHaveMoves → slice_get d.nodes i ≡ Some (Trunc parts) → Enters (Trunc parts) v done (cut_left parts v)
+  pub enter_cut : (parts : List ℕ) (i : ℕ) (v : Values) (done : List ℕ)
+      → TreesHaveMoves → slice_get d.nodes i ≡ Some (Trunc parts) → Enters (Trunc parts) v done (cut_left parts v)
   enter_cut parts i v done some at =
       record { completes = on; completed = back; begins = forth; begun = home; up = λ place. tt }
     where
       on : (b : List ℕ) (inside : List Move) → Told (Trunc parts) (length done) v b inside → Completes d (cut_left parts v) done b (inside ++ Leave ∷ [])
       on b inside told = by told.means told.walks refl
         where
-          by : {ps : List ℕ} {t u : TreeV} → NodeMeans d (Trunc ps) (length done) v b t → NodeWalk d (Trunc ps) (length done) u inside → t ≡ u → Completes d (cut_left ps v) done b (inside ++ Leave ∷ [])
+          by : {ps : List ℕ} {t u : TreeV} → NodeMeans d (Trunc ps) (length done) v b t
+              → NodeWalk d (Trunc ps) (length done) u inside → t ≡ u → Completes d (cut_left ps v) done b
+              (inside ++ Leave ∷ [])
           by {ps = ps} (means_trunc {ts = ts} h) (walk_trunc {ts = us} walks) e =
               let same : ts ≡ us = cc in
               let P : Trees → Type 0 = λ k. LeadMean d ps (length done) v b k in
@@ -241,17 +271,20 @@ module _ (d : DescV) where
   leaf_told : {n : Node} {o : ℕ} {v : Values} {b : List ℕ} → NodeMeans d n o v b (bits b) → NodeWalk d n o (bits b) (map Bit b) → Told n o v b (map Bit b)
   leaf_told {b = b} means walks = record { tree = bits b; means = means; walks = walks }
 
-  pub enter_field : (unit : ℕ) (count : Count) (n : ℕ) (v : Values) (done : List ℕ) → count_of v count ≡ Some n → Enters (Field unit count) v done (bits_left (unit * n))
+  pub enter_field : (unit : ℕ) (count : Count) (n : ℕ) (v : Values) (done : List ℕ)
+      → count_of v count ≡ Some n → Enters (Field unit count) v done (bits_left (unit * n))
   enter_field unit count n v done counts =
       record { completes = on; completed = back; begins = forth; begun = home; up = λ place. tt }
     where
       wide : (b : List ℕ) {m : ℕ} → count_of v count ≡ Some m → length b ≡ unit * m → length b ≡ unit * n
       wide b {m} count_m size = let same : m ≡ n = cc in size ∙ ap (λ k. unit * k) same
 
-      on : (b : List ℕ) (inside : List Move) → Told (Field unit count) (length done) v b inside → Completes d (bits_left (unit * n)) done b (inside ++ Leave ∷ [])
+      on : (b : List ℕ) (inside : List Move) → Told (Field unit count) (length done) v b inside
+          → Completes d (bits_left (unit * n)) done b (inside ++ Leave ∷ [])
       on b inside told = by told.means told.walks refl
         where
-          by : {t u : TreeV} → NodeMeans d (Field unit count) (length done) v b t → NodeWalk d (Field unit count) (length done) u inside → t ≡ u → Completes d (bits_left (unit * n)) done b (inside ++ Leave ∷ [])
+          by : {t u : TreeV} → NodeMeans d (Field unit count) (length done) v b t → NodeWalk d (Field unit count)
+              (length done) u inside → t ≡ u → Completes d (bits_left (unit * n)) done b (inside ++ Leave ∷ [])
           by (means_field m count_m size good) (walk_field {b = c} is) e =
               let same : b ≡ c = cc in
               completes_bits (wide b count_m size) good (ap (λ l. l ++ Leave ∷ []) (is ∙ ap (λ l. map Bit l) (sym same)))
@@ -267,7 +300,10 @@ module _ (d : DescV) where
       home : (b : List ℕ) → Begins d (bits_left (unit * n)) done b → NodeFollows d (Field unit count) (length done) v b
       home b (begins_bits few good) =
           let more = replicate (unit * n - length b) 0 in
-          follows_field (b ++ more) more refl (means_field n counts (length-append b more ∙ omega (arith, few, length-replicate {A = ℕ} (unit * n - length b) 0)) (IsBits-append b more good (IsBits-zeros (unit * n - length b))))
+          follows_field (b ++ more) more refl
+          (means_field n counts
+          (length-append b more ∙ omega (arith, few, length-replicate {A = ℕ} (unit * n - length b) 0))
+          (IsBits-append b more good (IsBits-zeros (unit * n - length b))))
       home b (begins_whole moves h) = whole (back b moves h)
 
   pub enter_spare : (s : Symbol) (v : Values) (done : List ℕ) → Enters (Spare s) v done (spare_left s)
@@ -277,7 +313,8 @@ module _ (d : DescV) where
       on : (b : List ℕ) (inside : List Move) → Told (Spare s) (length done) v b inside → Completes d (spare_left s) done b (inside ++ Leave ∷ [])
       on b inside told = by told.means told.walks refl
         where
-          by : {t u : TreeV} → NodeMeans d (Spare s) (length done) v b t → NodeWalk d (Spare s) (length done) u inside → t ≡ u → Completes d (spare_left s) done b (inside ++ Leave ∷ [])
+          by : {t u : TreeV} → NodeMeans d (Spare s) (length done) v b t → NodeWalk d (Spare s) (length done) u inside
+              → t ≡ u → Completes d (spare_left s) done b (inside ++ Leave ∷ [])
           by (means_spare one good) (walk_spare {b = c} is) e =
               let same : b ≡ c = cc in
               completes_spare one good (ap (λ l. l ++ Leave ∷ []) (is ∙ ap (λ l. map Bit l) (sym same)))
@@ -292,7 +329,8 @@ module _ (d : DescV) where
       forth b (follows_whole t (means_spare one good)) = begins_spare (omega (arith, one)) good
 
       home : (b : List ℕ) → Begins d (spare_left s) done b → NodeFollows d (Spare s) (length done) v b
-      home [] (begins_spare few good) = follows_spare (spelled (s ∷ []) (length done)) (spelled (s ∷ []) (length done)) refl (means_spare refl (spelled_is_spare d.reading s (length done)))
+      home [] (begins_spare few good) = follows_spare (spelled (s ∷ []) (length done))
+          (spelled (s ∷ []) (length done)) refl (means_spare refl (spelled_is_spare d.reading s (length done)))
       home (a ∷ b) (begins_spare few good) = follows_spare (a ∷ b) [] (sym (append-nil (a ∷ b))) (means_spare (omega (arith, few)) good)
       home b (begins_whole moves h) = whole (back b moves h)
 
@@ -303,7 +341,8 @@ module _ (d : DescV) where
       on : (b : List ℕ) (inside : List Move) → Told Pad (length done) v b inside → Completes d (pad_left false) done b (inside ++ Leave ∷ [])
       on b inside told = by told.means told.walks refl
         where
-          by : {t u : TreeV} → NodeMeans d Pad (length done) v b t → NodeWalk d Pad (length done) u inside → t ≡ u → Completes d (pad_left false) done b (inside ++ Leave ∷ [])
+          by : {t u : TreeV} → NodeMeans d Pad (length done) v b t → NodeWalk d Pad (length done) u inside → t ≡ u
+              → Completes d (pad_left false) done b (inside ++ Leave ∷ [])
           by (means_pad some good) (walk_pad {b = c} is) e =
               let same : b ≡ c = cc in
               completes_pad (λ none. some) good (ap (λ l. l ++ Leave ∷ []) (is ∙ ap (λ l. map Bit l) (sym same)))
@@ -318,7 +357,8 @@ module _ (d : DescV) where
       forth b (follows_whole t (means_pad some good)) = begins_pad good
 
       home : (b : List ℕ) → Begins d (pad_left false) done b → NodeFollows d Pad (length done) v b
-      home [] (begins_pad good) = follows_pad (spelled (Low ∷ []) (length done)) (spelled (Low ∷ []) (length done)) refl (means_pad (omega arith) (spelled_is_spare d.reading Low (length done)))
+      home [] (begins_pad good) = follows_pad (spelled (Low ∷ []) (length done)) (spelled (Low ∷ []) (length done))
+          refl (means_pad (omega arith) (spelled_is_spare d.reading Low (length done)))
       home (a ∷ b) (begins_pad good) = follows_pad (a ∷ b) [] (sym (append-nil (a ∷ b))) (means_pad (omega arith) good)
       home b (begins_whole moves h) = whole (back b moves h)
 
@@ -329,7 +369,8 @@ module _ (d : DescV) where
       on : (b : List ℕ) (inside : List Move) → Told Rest (length done) v b inside → Completes d rest_left done b (inside ++ Leave ∷ [])
       on b inside told = by told.means told.walks refl
         where
-          by : {t u : TreeV} → NodeMeans d Rest (length done) v b t → NodeWalk d Rest (length done) u inside → t ≡ u → Completes d rest_left done b (inside ++ Leave ∷ [])
+          by : {t u : TreeV} → NodeMeans d Rest (length done) v b t → NodeWalk d Rest (length done) u inside → t ≡ u
+              → Completes d rest_left done b (inside ++ Leave ∷ [])
           by (means_rest good) (walk_rest {b = c} is) e =
               let same : b ≡ c = cc in
               completes_rest good (ap (λ l. l ++ Leave ∷ []) (is ∙ ap (λ l. map Bit l) (sym same)))

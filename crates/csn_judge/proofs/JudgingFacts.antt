@@ -1,5 +1,7 @@
 -- From the open nodes to what a judge answers: before the first bit, behind a piece, at a refusal, and at the end.
-use Rattle.std.proofs.Common.{◌≡◌, ℕ, zero, suc, ◌+◌, ◌*◌, ◌<◌, ◌≤◌, ◌⊎◌, inl, inr, Bool, true, false, List, [], ◌∷◌, ◌++◌, length, take, refl, sym, ◌∙◌, ap, subst, arith, append_assoc, append-nil, length-append, Some, None}
+use Rattle.std.proofs.Common.{◌≡◌, ℕ, zero, suc, ◌+◌, ◌*◌, ◌<◌, ◌≤◌, ◌⊎◌, inl, inr, Bool, true, false, List, [], ◌∷◌}
+use Rattle.std.proofs.Common.{◌++◌, length, take, refl, sym, ◌∙◌, ap, subst, arith, append_assoc, append-nil}
+use Rattle.std.proofs.Common.{length-append, Some, None}
 use Rattle.std.specs.Prelude.{⊤}
 use Rattle.std.proofs.lemmas.Bool.Decides.{leb_tells}
 use Rattle.std.proofs.lemmas.Option.{slice_get_within}
@@ -16,7 +18,9 @@ use Rattle.csn_desc.specs.Laws.{PrefixesAreFollowed, StringsAreFollowed, TreesHa
 use Rattle.csn_judge.specs.Known.{Known}
 use Rattle.csn_judge.specs.Coming.{Coming}
 use Rattle.csn_judge.specs.Told.{Tells, tells_none}
-use Rattle.csn_judge.specs.Left.{Left, all_left, none_left, bits_left, symbols_left, spare_left, pad_left, rest_left, choice_left, window_left, parts_left, turns_left, free_left, cut_left, lead_left, begins_all}
+use Rattle.csn_judge.specs.Left.{Left, all_left, none_left, bits_left, symbols_left, spare_left, pad_left, rest_left}
+use Rattle.csn_judge.specs.Left.{choice_left, window_left, parts_left, turns_left, free_left, cut_left, lead_left}
+use Rattle.csn_judge.specs.Left.{begins_all}
 use Rattle.csn_judge.specs.Remains.{Rest, Goes, IsBlock, StandsFor, Passes, Steps, goes_here}
 use Rattle.csn_judge.specs.Inside.{IsStack, AreOwed}
 use Rattle.csn_certify.specs.declared.numbers.Number.{Number}
@@ -31,7 +35,8 @@ use Rattle.csn_judge.specs.declared.verdict.Judged.{Judged}
 use Rattle.csn_judge.specs.declared.verdict.Verdict.TheVariants.{Going, Refused}
 use Rattle.csn_judge.specs.declared.verdict.Judged.TheVariants.{Ok, Refused as no_string_at}
 use Rattle.csn_judge.proofs.StepFacts.{stands_after}
-use Rattle.csn_judge.proofs.Verdicts.{stack_new, feed_on, going, place_at_end, refused_at, StandsAtEnd, at_end, at_end_after, is_string, no_string, no_string_held}
+use Rattle.csn_judge.proofs.Verdicts.{stack_new, feed_on, going, place_at_end, refused_at, StandsAtEnd, at_end}
+use Rattle.csn_judge.proofs.Verdicts.{at_end_after, is_string, no_string, no_string_held}
 
 -- the state where other bits come
 abbrev pub where_come : StateV → Coming → StateV
@@ -41,7 +46,8 @@ where_come s coming = record { frames = s.frames; values = s.values; pace = s.pa
 pub owed_more : (stack : List Left) (done ahead more : List ℕ) → AreOwed stack done ahead → AreOwed stack done (ahead ++ more)
 owed_more [] done ahead more owed = tt
 owed_more (lead_left i from after v ∷ outer) done ahead more (inl some, owed) = (inl some, owed_more outer done ahead more owed)
-owed_more (lead_left i from after v ∷ outer) done ahead more (inr one, owed) = (inr (omega (arith, one.0, length-append ahead more), one.1), owed_more outer done ahead more owed)
+owed_more (lead_left i from after v ∷ outer) done ahead more (inr one, owed) =
+    (inr (omega (arith, one.0, length-append ahead more), one.1), owed_more outer done ahead more owed)
 owed_more (all_left i v ∷ outer) done ahead more owed = owed_more outer done ahead more owed
 owed_more (bits_left n ∷ outer) done ahead more owed = owed_more outer done ahead more owed
 owed_more (symbols_left run ∷ outer) done ahead more owed = owed_more outer done ahead more owed
@@ -94,7 +100,8 @@ module _ (d : DescV) where
       }
 
   -- bits behind which a block does not end change nothing for what stands
-  steps_of : {old new : List Left} {done taken ahead : List ℕ} {made : List Move} → Passes d false old new done taken ahead made → Steps d old new done taken ahead made
+  steps_of : {old new : List Left} {done taken ahead : List ℕ} {made : List Move}
+      → Passes d false old new done taken ahead made → Steps d old new done taken ahead made
   steps_of p =
       record {
         ends = λ later rest h. p.ends later rest (λ e. absurd (cc)) h;
@@ -236,7 +243,9 @@ module _ {S : Type 0} (takes : S → Move → Node → S → Type 0) (old new : 
       let F : List ℕ → Type 0 = λ l. StandsFor d stack done l moves in
       let read = stands_on d come.going go.bits (subst F (sym come.bits) (feed_on d more for)) go.steps in
       let same : b ++ more ≡ (done ++ go.taken) ++ new.state.coming.bits =
-      ap (λ l. l ++ more) cut ∙ append_assoc done old.state.coming.bits more ∙ ap (λ l. done ++ l) (sym come.bits ∙ go.bits ∙ ap (λ l. go.taken ++ l) (sym there.bits)) ∙ sym (append_assoc done go.taken new.state.coming.bits) in
+      ap (λ l. l ++ more) cut ∙ append_assoc done old.state.coming.bits more
+      ∙ ap (λ l. done ++ l) (sym come.bits ∙ go.bits ∙ ap (λ l. go.taken ++ l) (sym there.bits))
+      ∙ sym (append_assoc done go.taken new.state.coming.bits) in
       let followed = on.followed (go.ended ∙ come.going) in
       let P : List ℕ → Type 0 = λ l. NFollow d 0 0 [] l in
       let Q : List Frame → Type 0 = λ f. Tells d takes (opened old) go.made (around_of f) s t in
@@ -259,13 +268,25 @@ module _ {S : Type 0} (takes : S → Move → Node → S → Type 0) (old new : 
   feeds_none prefixes place none come turns b moves (judges_on stack done refused seen cut stands for goes unended) =
       let d : DescV = old.desc in
       let no = turns stack done (fed_stands d more coming come.bits come.place come.limit stands) in
-      let same : b ++ more ≡ done ++ coming.bits = ap (λ l. l ++ more) cut ∙ append_assoc done old.state.coming.bits more ∙ ap (λ l. done ++ l) (sym come.bits) in
+      let same : b ++ more ≡ done ++ coming.bits = ap (λ l. l ++ more) cut
+      ∙ append_assoc done old.state.coming.bits more ∙ ap (λ l. done ++ l) (sym come.bits) in
       let F : List ℕ → Type 0 = λ l. StandsFor d stack done l moves in
       let P : List ℕ → Type 0 = λ l. IsPlace d l place in
       let Q : ℕ → Type 0 = λ n. IsPlace d (done ++ coming.bits) n in
       let G : List ℕ → Type 0 = λ l. NFollow d 0 0 [] l in
-      let at = subst P (sym same) (subst Q (sym no.place_is) (refused_at d no.alike no.bit no.later prefixes (subst F (sym come.bits) (feed_on d more for)) no.bits no.followed no.no_further)) in
-      let small : place < length (b ++ more) = omega (arith, no.place_is, ap (λ l. length l) same, length-append done coming.bits, ap (λ l. length l) no.bits, length-append no.alike (no.bit ∷ no.later)) in
+      let at = subst P (sym same)
+      (subst Q (sym no.place_is) (refused_at d no.alike no.bit no.later prefixes
+      (subst F (sym come.bits) (feed_on d more for)) no.bits no.followed no.no_further)) in
+      let small : place < length (b ++ more) =
+      omega (
+        arith,
+        no.place_is,
+        ap (λ l. length l) same,
+        length-append done coming.bits,
+        ap (λ l. length l)
+            no.bits,
+        length-append no.alike (no.bit ∷ no.later),
+      ) in
       record {
         place_is = at;
         before_end = small;
@@ -317,7 +338,8 @@ blocks : (d : DescV) → TreesHaveMoves → (b : List ℕ) → ((moves : List Mo
 blocks d have b none tree means = let walk = have d 0 0 [] b tree means in none walk.0 (record { tree = tree; means = means; walks = walk.1 })
 
 -- behind a refusal
-pub ends_refused : StringsAreFollowed → (are_told : List ℕ → List Move → Type 0) (j : JudgeV) (place : ℕ) → j.refused ≡ Some place → Ends are_told j (no_string_at place)
+pub ends_refused : StringsAreFollowed → (are_told : List ℕ → List Move → Type 0) (j : JudgeV) (place : ℕ)
+    → j.refused ≡ Some place → Ends are_told j (no_string_at place)
 ends_refused strings are_told j place refusal b moves (judges_on stack done refused seen cut stands for goes unended) = absurd (cc)
 ends_refused strings are_told j place refusal b moves (judges_no_more before refused at small) =
     let same : before ≡ place = cc in
@@ -394,7 +416,8 @@ module _ {S : Type 0} (takes : S → Move → Node → S → Type 0) (j : JudgeV
   no_more [] b e = (refl, sym e)
   no_more (x ∷ a) b e = absurd (cc)
 
-  at_the_last : IsOver j coming → ((stack : List Left) (done : List ℕ) → Stands j.desc (where_come j.state coming) stack done → WaitsOn j.desc takes (where_come j.state coming) after s t stack done)
+  at_the_last : IsOver j coming → ((stack : List Left) (done : List ℕ) → Stands j.desc (where_come j.state coming)
+      stack done → WaitsOn j.desc takes (where_come j.state coming) after s t stack done)
       → (b : List ℕ) (moves : List Move) → AtEnd b moves → AtLast b moves
   at_the_last over turns b moves end =
       let d : DescV = j.desc in
@@ -425,7 +448,8 @@ module _ {S : Type 0} (takes : S → Move → Node → S → Type 0) (j : JudgeV
       of_none (shows_none kept) = refl
 
   pub ends_string : IsOver j coming → after.frames ≡ []
-      → ((stack : List Left) (done : List ℕ) → Stands j.desc (where_come j.state coming) stack done → WaitsOn j.desc takes (where_come j.state coming) after s t stack done)
+      → ((stack : List Left) (done : List ℕ) → Stands j.desc (where_come j.state coming) stack done
+      → WaitsOn j.desc takes (where_come j.state coming) after s t stack done)
       → Ends (λ around made. Tells j.desc takes (opened j) made around s t) j Ok
   ends_string over empty turns b moves judges =
       let d : DescV = j.desc in
@@ -435,7 +459,8 @@ module _ {S : Type 0} (takes : S → Move → Node → S → Type 0) (j : JudgeV
       record { made = last.made; block = is_string d (subst P (nothing_open empty last.shows) last.ends); told = subst Q empty last.tells }
 
   pub ends_none : TreesHaveMoves → IsOver j coming → ¬ (after.frames ≡ [])
-      → ((stack : List Left) (done : List ℕ) → Stands j.desc (where_come j.state coming) stack done → WaitsOn j.desc takes (where_come j.state coming) after s t stack done)
+      → ((stack : List Left) (done : List ℕ) → Stands j.desc (where_come j.state coming) stack done
+      → WaitsOn j.desc takes (where_come j.state coming) after s t stack done)
       → Ends (λ around made. Tells j.desc takes (opened j) made around s t) j (no_string_at j.seen)
   ends_none have over some turns b moves judges =
       let d : DescV = j.desc in
@@ -455,7 +480,8 @@ module _ {S : Type 0} (takes : S → Move → Node → S → Type 0) (j : JudgeV
 
   -- nothing is refused where no bits come
   pub ends_never : IsOver j coming → (are_told : List ℕ → List Move → Type 0) (place here : ℕ)
-      → ((stack : List Left) (done : List ℕ) → Stands j.desc (where_come j.state coming) stack done → RefusesAt j.desc takes (where_come j.state coming) after s t stack done place)
+      → ((stack : List Left) (done : List ℕ) → Stands j.desc (where_come j.state coming) stack done
+      → RefusesAt j.desc takes (where_come j.state coming) after s t stack done place)
       → Ends are_told j (no_string_at here)
   ends_never over are_told place here turns b moves judges =
       let end = at_the_end over b moves judges in
@@ -471,7 +497,8 @@ some_nodes d is = within is.well_formed
     within {i = i} (formed n at small head parts counted later) = slice_get_within d.nodes i n at
 
 -- what further bits pay
-pub credit_more : (nodes : ℕ) (frames : List Frame) (pace : Pace) (here more : ℕ) → credit_of nodes frames pace (here + more) ≡ credit_of nodes frames pace here + 6 * (nodes * more)
+pub credit_more : (nodes : ℕ) (frames : List Frame) (pace : Pace) (here more : ℕ)
+    → credit_of nodes frames pace (here + more) ≡ credit_of nodes frames pace here + 6 * (nodes * more)
 credit_more nodes frames pace here more =
     omega (arith, mul-add (6 * nodes) here more, mul_assoc 6 nodes more)
 
@@ -482,7 +509,8 @@ more_steps nodes more steps before spent after some bits pays =
 
 -- ---- where no move is told
 
-pub untold : (are_told : List ℕ → List Move → Type 0) (old new : JudgeV) (more : List ℕ) (verdict : Verdict) → Judges are_told old new more verdict → Judges (λ around made. ⊤) old new more verdict
+pub untold : (are_told : List ℕ → List Move → Type 0) (old new : JudgeV) (more : List ℕ) (verdict : Verdict)
+    → Judges are_told old new more verdict → Judges (λ around made. ⊤) old new more verdict
 untold are_told old new more Going judges =
     λ b moves here. let found = judges b moves here in record { made = found.made; judges = found.judges; followed = found.followed; told = tt }
 untold are_told old new more (Refused place) judges =

@@ -1,5 +1,7 @@
 -- Padding and a rest go on while bits may be taken, since nothing may stand behind them.
-use Rattle.std.proofs.Common.{◌≡◌, ℕ, suc, ◌+◌, ◌-◌, ◌%◌, ◌<◌, ◌≤◌, inl, inr, Bool, List, [], ◌∷◌, ◌++◌, length, take, refl, ◌∙◌, ap, subst, arith, append_assoc, append-nil, length-append, Option, Some, slice_get}
+use Rattle.std.proofs.Common.{◌≡◌, ℕ, suc, ◌+◌, ◌-◌, ◌%◌, ◌<◌, ◌≤◌, inl, inr, Bool, List, [], ◌∷◌, ◌++◌, length, take}
+use Rattle.std.proofs.Common.{refl, ◌∙◌, ap, subst, arith, append_assoc, append-nil, length-append, Option, Some}
+use Rattle.std.proofs.Common.{slice_get}
 use Rattle.std.proofs.lemmas.Bool.Decides.{leb_tells}
 use Rattle.csn_desc.specs.declared.symbol.Symbol.TheVariants.{Low}
 use Rattle.csn_desc.specs.declared.moves.Move.{Move}
@@ -36,16 +38,23 @@ pub record AtLast (d : DescV) (k from : ℕ) (v : Values) (outer : List Left) : 
 under_eight : (n : ℕ) → n % 8 < 8
 under_eight n = omega arith
 
-at_last : (d : DescV) {fresh : Option ℕ} {k from : ℕ} {v : Values} {outer : List Left} (node : Node) → slice_get d.nodes k ≡ Some node → IsLast node → ((place : ℕ) → InEnds d k (from % 8) (place % 8)) → ((b : List ℕ) → HasWidth d k b) → IsReady d k from (length outer) v → Inside d fresh outer k from v → AtLast d k from v outer
+at_last : (d : DescV) {fresh : Option ℕ} {k from : ℕ} {v : Values} {outer : List Left} (node : Node)
+    → slice_get d.nodes k ≡ Some node → IsLast node → ((place : ℕ) → InEnds d k (from % 8) (place % 8))
+    → ((b : List ℕ) → HasWidth d k b) → IsReady d k from (length outer) v → Inside d fresh outer k from v
+    → AtLast d k from v outer
 at_last d {fresh} node at last ends width ready inner =
     record { node = node; at = at; last = last; ready = ready; fresh = fresh; inner = inner; ends = ends; width = width }
 
-pub pad_at_last : (d : DescV) {fresh : Option ℕ} {k from : ℕ} {v : Values} {outer : List Left} → slice_get d.nodes k ≡ Some Pad → IsReady d k from (length outer) v → Inside d fresh outer k from v → AtLast d k from v outer
+pub pad_at_last : (d : DescV) {fresh : Option ℕ} {k from : ℕ} {v : Values} {outer : List Left}
+    → slice_get d.nodes k ≡ Some Pad → IsReady d k from (length outer) v → Inside d fresh outer k from v
+    → AtLast d k from v outer
 pad_at_last d at =
     at_last d Pad at tt (λ place. ends_at Pad at (ends_pad (under_eight place)))
     (λ b. record { field = λ w e. absurd (grind (arith, at, e)); label = λ w e. absurd (grind (arith, at, e)) })
 
-pub rest_at_last : (d : DescV) {fresh : Option ℕ} {k from : ℕ} {v : Values} {outer : List Left} → slice_get d.nodes k ≡ Some Rest → IsReady d k from (length outer) v → Inside d fresh outer k from v → AtLast d k from v outer
+pub rest_at_last : (d : DescV) {fresh : Option ℕ} {k from : ℕ} {v : Values} {outer : List Left}
+    → slice_get d.nodes k ≡ Some Rest → IsReady d k from (length outer) v → Inside d fresh outer k from v
+    → AtLast d k from v outer
 rest_at_last d at =
     at_last d Rest at tt (λ place. ends_at Rest at (ends_rest (under_eight place)))
     (λ b. record { field = λ w e. absurd (grind (arith, at, e)); label = λ w e. absurd (grind (arith, at, e)) })
@@ -63,9 +72,11 @@ module _ (d : DescV) (most : ℕ) (is : IsDescription d) (certified : Certified 
     no_bit : (done : List ℕ) (bit : ℕ) (rest : List ℕ) → MayStandBehind d k (length done % 8) (take (suc (length done) - length done) (bit ∷ rest)) → ⊥
     no_bit done bit rest stands =
         let one : suc (length done) - length done ≡ 1 = omega arith in
-        known.last d most k (from % 8) (length done % 8) bit how.node certified how.at how.last how.ready.reached (how.ends (length done)) (stands bit [] (ap (λ n. take n (bit ∷ rest)) one))
+        known.last d most k (from % 8) (length done % 8) bit how.node certified how.at how.last how.ready.reached
+        (how.ends (length done)) (stands bit [] (ap (λ n. take n (bit ∷ rest)) one))
 
-    pub rest_none_behind : (done : List ℕ) (bit : ℕ) (rest : List ℕ) {moves : List Move} → Within outer (suc (length done)) → RestOf d outer done (bit ∷ rest) moves → ⊥
+    pub rest_none_behind : (done : List ℕ) (bit : ℕ) (rest : List ℕ) {moves : List Move}
+        → Within outer (suc (length done)) → RestOf d outer done (bit ∷ rest) moves → ⊥
     rest_none_behind done bit rest within o = no_bit done bit rest (rest_stands d is known (suc (length done)) how.inner (how.width _) within o)
 
     pub goes_none_behind : (done : List ℕ) (bit : ℕ) (rest : List ℕ) → Within outer (suc (length done)) → Goes d outer done (bit ∷ rest) → ⊥
@@ -91,7 +102,9 @@ module _ (d : DescV) (most : ℕ) (is : IsDescription d) (certified : Certified 
         room : (b1 : List ℕ) → length b1 < length taken → Within outer (suc (length (done ++ b1)))
         room b1 less = within_less outer _ _ (omega (arith, less, length-append done b1)) within
 
-        by_rest : (x b1 b2 : List ℕ) (others : List Move) → taken ++ x ≡ b1 ++ b2 → RestOf d outer (done ++ b1) b2 others → Fits (length taken) (length b1) → length taken ≤ length b1
+        by_rest : (x b1 b2 : List ℕ) (others : List Move)
+            → taken ++ x ≡ b1 ++ b2 → RestOf d outer (done ++ b1) b2 others → Fits (length taken) (length b1)
+            → length taken ≤ length b1
         by_rest x b1 b2 others e o (fits long) = long
         by_rest x b1 b2 others e o (short less) =
             let found = behind_short taken x b1 b2 e less in
@@ -106,7 +119,10 @@ module _ (d : DescV) (most : ℕ) (is : IsDescription d) (certified : Certified 
             absurd (goes_none_behind (done ++ b1) found.bit found.rest (room b1 less) (subst P found.there g))
 
     -- padding that differs at a bit
-    pub pad_differs : (begun : Bool) (alike : List ℕ) (done : List ℕ) (bit : ℕ) (rest : List ℕ) → ¬ IsSpare d.reading Low (length done + length alike) (bit ∷ []) → Within outer (suc (length done + length alike)) → ¬ Goes d (pad_left begun ∷ outer) done (alike ++ bit ∷ rest)
+    pub pad_differs : (begun : Bool) (alike : List ℕ) (done : List ℕ) (bit : ℕ) (rest : List ℕ)
+        → ¬ IsSpare d.reading Low (length done + length alike) (bit ∷ [])
+        → Within outer (suc (length done + length alike))
+        → ¬ Goes d (pad_left begun ∷ outer) done (alike ++ bit ∷ rest)
     pad_differs begun alike done bit rest not within g = by g
       where
         no_spare : {b : List ℕ} (x y : List ℕ) → b ≡ alike ++ (bit ∷ x) → IsSpare d.reading Low (length done) b → ⊥
@@ -135,6 +151,9 @@ module _ (d : DescV) (most : ℕ) (is : IsDescription d) (certified : Certified 
             by_size : Fits (suc (length alike)) (length b1) → ⊥
             by_size (fits long) = longer b1 cut long good
             by_size (short less) =
-                let found = behind_short (alike ++ bit ∷ []) rest b1 b2 (append_assoc alike (bit ∷ []) rest ∙ cut) (omega (arith, less, length-append alike (bit ∷ []))) in
+                let found = behind_short (alike ++ bit ∷ []) rest b1 b2 (append_assoc alike (bit ∷ []) rest ∙ cut)
+                (omega (arith, less, length-append alike (bit ∷ []))) in
                 let P : List ℕ → Type 0 = λ l. Goes d outer (done ++ b1) l in
-                goes_none_behind (done ++ b1) found.bit found.rest (within_less outer _ _ (omega (arith, less, length-append done b1)) within) (subst P found.there h)
+                goes_none_behind (done ++ b1) found.bit found.rest
+                (within_less outer _ _ (omega (arith, less, length-append done b1)) within)
+                (subst P found.there h)

@@ -1,5 +1,7 @@
 -- Leaves take bits.
-use Rattle.std.proofs.Common.{◌≡◌, ℕ, suc, ◌+◌, ◌-◌, ◌<◌, ◌≤◌, ◌⊎◌, inl, inr, Bool, true, false, List, [], ◌∷◌, ◌++◌, length, map, take, drop, min, refl, sym, ◌∙◌, ap, subst, arith, append_assoc, append-nil, length-append, length-drop, take-append-drop, Option, Some, slice_get}
+use Rattle.std.proofs.Common.{◌≡◌, ℕ, suc, ◌+◌, ◌-◌, ◌<◌, ◌≤◌, ◌⊎◌, inl, inr, Bool, true, false, List, [], ◌∷◌, ◌++◌}
+use Rattle.std.proofs.Common.{length, map, take, drop, min, refl, sym, ◌∙◌, ap, subst, arith, append_assoc}
+use Rattle.std.proofs.Common.{append-nil, length-append, length-drop, take-append-drop, Option, Some, slice_get}
 use Rattle.std.proofs.lemmas.Bool.Decides.{leb_tells}
 use Rattle.std.proofs.lemmas.List.{length-take-le, drop-drop, nil_from_length}
 use Rattle.csn_bits.specs.Octets.{IsBits}
@@ -19,7 +21,8 @@ use Rattle.csn_judge.specs.declared.leaf.Read.TheVariants as read
 use Rattle.csn_judge.specs.Coming.{Coming, IsTaken, IsGood, IsSame}
 use Rattle.csn_judge.specs.Known.{Known}
 use Rattle.csn_judge.specs.Told.{BitsTold}
-use Rattle.csn_judge.specs.Left.{Left, bits_left, symbols_left, spare_left, pad_left, rest_left, none_left, Completes, completes_bits, completes_symbols, completes_spare}
+use Rattle.csn_judge.specs.Left.{Left, bits_left, symbols_left, spare_left, pad_left, rest_left, none_left, Completes}
+use Rattle.csn_judge.specs.Left.{completes_bits, completes_symbols, completes_spare}
 use Rattle.csn_judge.specs.Remains.{Within, Goes, Passes}
 use Rattle.csn_judge.specs.Inside.{IsStack, stack_node, of_pad, of_pad_begun, of_rest, AreOwed}
 use Rattle.csn_judge.specs.Shown.{LeafShows, shows_lits, shows_spare, shows_pad, shows_field, shows_rest, limit_in}
@@ -27,11 +30,13 @@ use Rattle.csn_judge.specs.Reads.{MayBeLeft, may_lits, SpareDiffers, Takes, Keep
 use Rattle.csn_judge.proofs.StepFacts.{Replaces, Alike, NotBefore, as_many, replaced, steps_none}
 use Rattle.csn_judge.proofs.Leaves.{spare_at, take_bits, take_symbols, take_spare, take_pad, take_rest, no_bits_wanted, no_symbols_wanted}
 use Rattle.csn_judge.proofs.Closing.{passes_of, Ends, pad_ends, rest_ends, closed_full, closed_last}
-use Rattle.csn_judge.proofs.Refusing.{alive, spare_alive, bits_wanted, symbols_wanted, spare_wanted, pad_wanted, symbols_follow, symbols_differ, spare_differs, pad_follows}
+use Rattle.csn_judge.proofs.Refusing.{alive, spare_alive, bits_wanted, symbols_wanted, spare_wanted, pad_wanted}
+use Rattle.csn_judge.proofs.Refusing.{symbols_follow, symbols_differ, spare_differs, pad_follows}
 use Rattle.csn_judge.proofs.Lasts.{pad_at_last, rest_at_last, not_before, pad_differs}
 use Rattle.csn_judge.proofs.SpellingFacts.{Mismatch, mismatch, all_alike}
 use Rattle.csn_judge.proofs.Turning.{within_limit}
-use Rattle.csn_judge.proofs.LeafStacks.{full_at, Kept, field_kept, field_done, literal_kept, literal_done, spare_kept, pad_kept, pad_done, rest_kept, rest_done}
+use Rattle.csn_judge.proofs.LeafStacks.{full_at, Kept, field_kept, field_done, literal_kept, literal_done, spare_kept}
+use Rattle.csn_judge.proofs.LeafStacks.{pad_kept, pad_done, rest_kept, rest_done}
 
 -- ---- what is taken of what comes
 
@@ -71,7 +76,9 @@ given {most} {n} {old} {mid} {new} r t =
       };
       few = omega (arith, r.count, size);
       room = omega (arith, r.count, r.same.place, r.same.limit, r.good.inside);
-      why = r.count ∙ ap (λ k. min most (min k (mid.limit - mid.place))) size ∙ ap (λ k. min most (min (length old.bits) (k - mid.place))) r.same.limit ∙ ap (λ k. min most (min (length old.bits) (old.limit - k))) r.same.place;
+      why = r.count ∙ ap (λ k. min most (min k (mid.limit - mid.place))) size
+          ∙ ap (λ k. min most (min (length old.bits) (k - mid.place))) r.same.limit
+          ∙ ap (λ k. min most (min (length old.bits) (old.limit - k))) r.same.place;
     }
 
 -- what is told of them
@@ -88,7 +95,8 @@ spare_of {reading} {other} {place} {at} {b} {c} s same n e f h =
     subst P (sym same) (subst Q f (spare_at reading s (take n b) e h))
 
 -- they are as in some symbols, where as many are alike
-pub alike_here : {most n k : ℕ} {old mid : Coming} {wanted : List ℕ} (run : List Symbol) → IsReadied most n old mid → length run ≡ n → wanted ≡ spelled run mid.place
+pub alike_here : {most n k : ℕ} {old mid : Coming} {wanted : List ℕ} (run : List Symbol)
+    → IsReadied most n old mid → length run ≡ n → wanted ≡ spelled run mid.place
     → k ≤ n → n ≤ k → take k mid.bits ≡ take k wanted → take n old.bits ≡ spelled run old.place
 alike_here {n = n} {k} {mid = mid} run r long is within last same =
     ap (λ l. take n l) (sym r.same.bits)
@@ -106,7 +114,8 @@ given_none {most} {n} {old} {mid} none r =
     given (subst P none r) (record { bits = refl; place = omega arith; limit = refl; ended = refl })
 
 -- where none is taken, no bit can be taken as before
-pub closed_before : {n : ℕ} {mid new : Coming} → IsTaken n mid new → n ≡ 0 → (new.ended ≡ true) ⊎ (new.place ≡ new.limit) → (mid.ended ≡ true) ⊎ (mid.place ≡ mid.limit)
+pub closed_before : {n : ℕ} {mid new : Coming} → IsTaken n mid new → n ≡ 0 → (new.ended ≡ true)
+    ⊎ (new.place ≡ new.limit) → (mid.ended ≡ true) ⊎ (mid.place ≡ mid.limit)
 closed_before t none (inl over) = inl (sym t.ended ∙ over)
 closed_before t none (inr full) = inr (omega (arith, full, none, t.place, t.limit))
 
@@ -136,7 +145,8 @@ module _ {most n : ℕ} {old new : Coming} (g : Given most n old new) where
 
 module _ (d : DescV) where
   -- a form in place of another, and one that is alike in place of that
-  pub replaces_then : {old mid new : Left} {done taken : List ℕ} {made : List Move} → Replaces d old mid done taken made → Alike d mid new (done ++ taken) → Replaces d old new done taken made
+  pub replaces_then : {old mid new : Left} {done taken : List ℕ} {made : List Move}
+      → Replaces d old mid done taken made → Alike d mid new (done ++ taken) → Replaces d old new done taken made
   replaces_then r a =
       record {
         completes = λ b moves h.
@@ -154,7 +164,8 @@ module _ (d : DescV) where
   field_wants : {i k : ℕ} {left : Left} {done : List ℕ} → LeafShows d i (leaf.Field k) left → 0 < k → (moves : List Move) → ¬ Completes d left done [] moves
   field_wants {k = k} {done = done} (shows_field unit count at) some moves = bits_wanted d k done some moves
 
-  pad_wants : {i : ℕ} {begun : Bool} {left : Left} {done : List ℕ} → LeafShows d i (leaf.Pad begun) left → (begun ≡ true → ⊥) → (moves : List Move) → ¬ Completes d left done [] moves
+  pad_wants : {i : ℕ} {begun : Bool} {left : Left} {done : List ℕ} → LeafShows d i (leaf.Pad begun) left
+      → (begun ≡ true → ⊥) → (moves : List Move) → ¬ Completes d left done [] moves
   pad_wants {begun = true} (shows_pad at) not moves = absurd (not refl)
   pad_wants {begun = false} {done = done} (shows_pad at) not moves = pad_wanted d done moves
 
@@ -187,7 +198,8 @@ module _ (d : DescV) where
           told = told;
         }
 
-    owed_split : {most n : ℕ} (g : Given most n old new) (outer : List Left) (done : List ℕ) → AreOwed outer done old.bits → AreOwed outer done (taken_of g ++ new.bits)
+    owed_split : {most n : ℕ} (g : Given most n old new) (outer : List Left) (done : List ℕ)
+        → AreOwed outer done old.bits → AreOwed outer done (taken_of g ++ new.bits)
     owed_split g outer done owed = subst (λ (l : List ℕ). AreOwed outer done l) (split g) owed
 
     -- ---- fields
@@ -225,14 +237,16 @@ module _ (d : DescV) where
         → ReadsLeaf d takes (leaf.Field k) node old new before after read.All
     field_reads_all {k = k} g all told next fresh i left outer done known a = by a.shows a.stack_is
       where
-        by : {left : Left} → LeafShows d i (leaf.Field k) left → IsStack d next fresh (left ∷ outer) done → Takes d next fresh takes node old new before after left outer done none_left
+        by : {left : Left} → LeafShows d i (leaf.Field k) left → IsStack d next fresh (left ∷ outer) done
+            → Takes d next fresh takes node old new before after left outer done none_left
         by (shows_field unit count at) is = field_all g all known is a.owed told
 
     pub field_reads_some : {most n : ℕ} (g : Given most n old new) {k : ℕ} → n < k → 0 < most → BitsTold takes node (taken_of g) before after
         → ReadsLeaf d takes (leaf.Field k) node old new before after (read.Some (leaf.Field (k - n)))
     field_reads_some {n = n} g {k} less some told next fresh i left outer done known a = by a.shows a.stack_is
       where
-        by : {left : Left} → LeafShows d i (leaf.Field k) left → IsStack d next fresh (left ∷ outer) done → Keeps d next fresh takes node old new before after left outer done i (leaf.Field (k - n))
+        by : {left : Left} → LeafShows d i (leaf.Field k) left → IsStack d next fresh (left ∷ outer) done
+            → Keeps d next fresh takes node old new before after left outer done i (leaf.Field (k - n))
         by (shows_field unit count at) is =
             record {
               now = bits_left (k - n);
@@ -255,19 +269,26 @@ module _ (d : DescV) where
         least (stack_node k from v bits ready (of_rest at order up) inner) =
             not_before d 12 known.description known.certified known (rest_at_last d at ready inner) done (taken_of g) room
 
-        by : {left : Left} → LeafShows d i leaf.Rest left → IsStack d next fresh (left ∷ outer) done → Keeps d next fresh takes node old new before after left outer done i leaf.Rest
+        by : {left : Left} → LeafShows d i leaf.Rest left → IsStack d next fresh (left ∷ outer) done
+            → Keeps d next fresh takes node old new before after left outer done i leaf.Rest
         by (shows_rest look) is =
             record {
               now = rest_left;
               shows = shows_rest look;
-              on = made_by g (rest_kept d (taken_of g) new.bits is (good_taken g) (owed_split g outer done a.owed)) (least is) (take_rest d done (taken_of g) (good_taken g)) told;
-              stays = λ still. record { stops = stops g some (not_taken g still); wants = λ closed left done shown moves. absurd (not_closed (not_taken g still) closed) };
+              on = made_by g (rest_kept d (taken_of g) new.bits is (good_taken g) (owed_split g outer done a.owed))
+                  (least is) (take_rest d done (taken_of g) (good_taken g)) told;
+              stays = λ still. record {
+                stops = stops g some (not_taken g still);
+                wants =
+                    λ closed left done shown moves. absurd (not_closed (not_taken g still) closed);
+              };
             }
 
     -- ---- where no bit can come
 
     takes_no_bit : {next : ℕ} {fresh : Option ℕ} {most : ℕ} (g : Given most 0 old new) {left now : Left} {outer : List Left} {done : List ℕ}
-        → IsStack d next fresh (now ∷ outer) done → AreOwed outer done old.bits → after ≡ before → Passes d old.ended (left ∷ outer) (now ∷ outer) done [] new.bits []
+        → IsStack d next fresh (now ∷ outer) done → AreOwed outer done old.bits → after ≡ before
+        → Passes d old.ended (left ∷ outer) (now ∷ outer) done [] new.bits []
         → Takes d next fresh takes node old new before after left outer done now
     takes_no_bit {next = next} {fresh = fresh} g {now = now} {outer = outer} {done = done} is owed untold passes =
         let same : done ≡ done ++ [] = sym (append-nil done) in
@@ -294,7 +315,10 @@ module _ (d : DescV) where
         let Q : List ℕ → Type 0 = λ l. Passes d true (left ∷ outer) (none_left ∷ outer) done [] l [] in
         subst P (sym before) (subst Q (sym none) (closed_last d ends))
     closed_steps g {left} {outer} {done} (inr full) place limit ends =
-        passes_of old.ended (closed_full d new.bits ends (full_at outer done (omega (arith, full, place, limit, g.taken.place, g.taken.limit)) (omega (arith, place, g.good.fits))))
+        passes_of old.ended
+        (closed_full d new.bits ends
+        (full_at outer done (omega (arith, full, place, limit, g.taken.place, g.taken.limit))
+        (omega (arith, place, g.good.fits))))
 
     closed_leaf : {next : ℕ} {fresh : Option ℕ} {most : ℕ} (g : Given most 0 old new) {left : Left} {outer : List Left} {done : List ℕ}
         → (new.ended ≡ true) ⊎ (new.place ≡ new.limit) → old.place ≡ length done → old.limit ≡ limit_in outer → Ends d left done
@@ -306,7 +330,8 @@ module _ (d : DescV) where
         → ReadsLeaf d takes leaf.Rest node old new before after read.All
     rest_reads_all g closed untold next fresh i left outer done known a = by a.shows a.stack_is
       where
-        by : {left : Left} → LeafShows d i leaf.Rest left → IsStack d next fresh (left ∷ outer) done → Takes d next fresh takes node old new before after left outer done none_left
+        by : {left : Left} → LeafShows d i leaf.Rest left → IsStack d next fresh (left ∷ outer) done
+            → Takes d next fresh takes node old new before after left outer done none_left
         by (shows_rest look) is = closed_leaf g closed a.place a.limit (rest_ends d done) (rest_done d known is) a.owed untold
 
     -- ---- padding
@@ -315,7 +340,9 @@ module _ (d : DescV) where
         → ReadsLeaf d takes (leaf.Pad begun) node old new before after read.All
     pad_reads_all g {begun} again closed untold next fresh i left outer done known a = by again a.shows a.stack_is
       where
-        by : {b : Bool} {left : Left} → b ≡ true → LeafShows d i (leaf.Pad b) left → IsStack d next fresh (left ∷ outer) done → Takes d next fresh takes node old new before after left outer done none_left
+        by : {b : Bool} {left : Left} → b ≡ true → LeafShows d i (leaf.Pad b) left
+            → IsStack d next fresh (left ∷ outer) done → Takes d next fresh takes node old new before after left outer
+            done none_left
         by {b} again (shows_pad look) is =
             let P : Bool → Type 0 = λ x. Takes d next fresh takes node old new before after (pad_left x) outer done none_left in
             let Q : Bool → Type 0 = λ x. IsStack d next fresh (pad_left x ∷ outer) done in
@@ -332,7 +359,8 @@ module _ (d : DescV) where
         → ReadsLeaf d takes (leaf.Pad begun) node old new before after (read.Some (leaf.Pad begun))
     pad_stays g {begun} some not_closed untold next fresh i left outer done known a = by a.shows a.stack_is
       where
-        by : {left : Left} → LeafShows d i (leaf.Pad begun) left → IsStack d next fresh (left ∷ outer) done → Keeps d next fresh takes node old new before after left outer done i (leaf.Pad begun)
+        by : {left : Left} → LeafShows d i (leaf.Pad begun) left → IsStack d next fresh (left ∷ outer) done
+            → Keeps d next fresh takes node old new before after left outer done i (leaf.Pad begun)
         by (shows_pad look) is =
             record {
               now = pad_left begun;
@@ -341,7 +369,8 @@ module _ (d : DescV) where
               stays = λ still. record { stops = stops g some refl; wants = λ closed left done shown. pad_wants shown (λ begun. not_closed begun closed) };
             }
 
-    pub pad_reads_some : {most n : ℕ} (g : Given most n old new) {begun : Bool} → 0 < n → IsSpare d.reading Low old.place (taken_of g) → BitsTold takes node (taken_of g) before after
+    pub pad_reads_some : {most n : ℕ} (g : Given most n old new) {begun : Bool}
+        → 0 < n → IsSpare d.reading Low old.place (taken_of g) → BitsTold takes node (taken_of g) before after
         → ReadsLeaf d takes (leaf.Pad begun) node old new before after (read.Some (leaf.Pad true))
     pad_reads_some {n = n} g {begun} some spare told next fresh i left outer done known a = by a.shows a.stack_is
       where
@@ -354,7 +383,8 @@ module _ (d : DescV) where
         least (stack_node k from v bits ready (of_pad_begun at place up) inner) =
             not_before d 12 known.description known.certified known (pad_at_last d at ready inner) done (taken_of g) room
 
-        by : {left : Left} → LeafShows d i (leaf.Pad begun) left → IsStack d next fresh (left ∷ outer) done → Keeps d next fresh takes node old new before after left outer done i (leaf.Pad true)
+        by : {left : Left} → LeafShows d i (leaf.Pad begun) left → IsStack d next fresh (left ∷ outer) done
+            → Keeps d next fresh takes node old new before after left outer done i (leaf.Pad true)
         by (shows_pad look) is =
             let long : 0 < length (taken_of g) = omega (arith, some, size g) in
             record {
@@ -365,7 +395,8 @@ module _ (d : DescV) where
               stays = λ still. absurd (omega (arith, some, not_taken g still));
             }
 
-    pub pad_reads_none : {most n : ℕ} (mid : Coming) (r : IsReadied most n old mid) {begun : Bool} (place : ℕ) → d.reading ≡ Sent → SpareDiffers Low n mid place → after ≡ before
+    pub pad_reads_none : {most n : ℕ} (mid : Coming) (r : IsReadied most n old mid) {begun : Bool} (place : ℕ)
+        → d.reading ≡ Sent → SpareDiffers Low n mid place → after ≡ before
         → ReadsLeaf d takes (leaf.Pad begun) node old new before after (read.Refused place)
     pad_reads_none {n = n} mid r {begun} place sent m untold next fresh i left outer done known a = by a.shows a.stack_is
       where
@@ -388,13 +419,18 @@ module _ (d : DescV) where
         room : suc (length done + length m.alike) ≤ limit_in outer
         room = omega (arith, m.few, r.count, mid_at, r.same.limit, a.limit)
 
-        at_last : {b : Bool} → IsStack d next fresh (pad_left b ∷ outer) done → Within outer (suc (length done + length m.alike)) → ¬ Goes d (pad_left b ∷ outer) done (m.alike ++ m.bit ∷ [])
+        at_last : {b : Bool} → IsStack d next fresh (pad_left b ∷ outer) done
+            → Within outer (suc (length done + length m.alike))
+            → ¬ Goes d (pad_left b ∷ outer) done (m.alike ++ m.bit ∷ [])
         at_last (stack_node k from v bits ready (of_pad look place up) inner) =
-            pad_differs d 12 known.description known.certified known (pad_at_last d look ready inner) _ m.alike done m.bit [] (there (m.bit ∷ []) _ _ (ap (λ p. p + length m.alike) mid_at) m.not)
+            pad_differs d 12 known.description known.certified known (pad_at_last d look ready inner)
+            _ m.alike done m.bit [] (there (m.bit ∷ []) _ _ (ap (λ p. p + length m.alike) mid_at) m.not)
         at_last (stack_node k from v bits ready (of_pad_begun look place up) inner) =
-            pad_differs d 12 known.description known.certified known (pad_at_last d look ready inner) _ m.alike done m.bit [] (there (m.bit ∷ []) _ _ (ap (λ p. p + length m.alike) mid_at) m.not)
+            pad_differs d 12 known.description known.certified known (pad_at_last d look ready inner)
+            _ m.alike done m.bit [] (there (m.bit ∷ []) _ _ (ap (λ p. p + length m.alike) mid_at) m.not)
 
-        by : {left : Left} → LeafShows d i (leaf.Pad begun) left → IsStack d next fresh (left ∷ outer) done → Differs d next fresh takes node old new before after left outer done place
+        by : {left : Left} → LeafShows d i (leaf.Pad begun) left → IsStack d next fresh (left ∷ outer) done
+            → Differs d next fresh takes node old new before after left outer done place
         by (shows_pad look) is =
             record {
               alike = m.alike;
@@ -409,7 +445,8 @@ module _ (d : DescV) where
 
     -- ---- spare bits
 
-    spare_step : (s : Symbol) (done taken : List ℕ) → length taken ≡ 1 → IsSpare d.reading s (length done) taken → Replaces d (spare_left s) none_left done taken (map Bit taken)
+    spare_step : (s : Symbol) (done taken : List ℕ) → length taken ≡ 1 → IsSpare d.reading s (length done) taken
+        → Replaces d (spare_left s) none_left done taken (map Bit taken)
     spare_step s done [] one good = absurd (omega (arith, one))
     spare_step s done (a ∷ []) one good = take_spare d s done a good
     spare_step s done (a ∷ b ∷ taken) one good = absurd (omega (arith, one))
@@ -427,7 +464,8 @@ module _ (d : DescV) where
         → ReadsLeaf d takes leaf.Spare node old new before after (read.Some leaf.Spare)
     spare_stays g some untold next fresh i left outer done known a = by a.shows a.stack_is
       where
-        by : {left : Left} → LeafShows d i leaf.Spare left → IsStack d next fresh (left ∷ outer) done → Keeps d next fresh takes node old new before after left outer done i leaf.Spare
+        by : {left : Left} → LeafShows d i leaf.Spare left → IsStack d next fresh (left ∷ outer) done
+            → Keeps d next fresh takes node old new before after left outer done i leaf.Spare
         by (shows_spare {s = s} look) is =
             record {
               now = spare_left s;
@@ -441,7 +479,8 @@ module _ (d : DescV) where
         → ReadsLeaf d takes leaf.Spare node old new before after read.All
     spare_reads_all {n = n} g symbol node_is one spare told next fresh i left outer done known a = by a.shows a.stack_is
       where
-        by : {left : Left} → LeafShows d i leaf.Spare left → IsStack d next fresh (left ∷ outer) done → Takes d next fresh takes node old new before after left outer done none_left
+        by : {left : Left} → LeafShows d i leaf.Spare left → IsStack d next fresh (left ∷ outer) done
+            → Takes d next fresh takes node old new before after left outer done none_left
         by (shows_spare {s = s} look) is =
             let long : length (taken_of g) ≡ 1 = size g ∙ one in
             let P : Symbol → Type 0 = λ t. IsSpare d.reading t old.place (taken_of g) in
@@ -449,7 +488,8 @@ module _ (d : DescV) where
             made_by g (spare_kept d known (taken_of g) new.bits is (good_taken g) long (owed_split g outer done a.owed))
             (one_enough s (taken_of g) (omega (arith, long))) (spare_step s done (taken_of g) long good) told
 
-    pub spare_reads_none : {most n : ℕ} (mid : Coming) (r : IsReadied most n old mid) (symbol : Symbol) (place : ℕ) → node ≡ Spare symbol → n ≤ 1 → d.reading ≡ Sent
+    pub spare_reads_none : {most n : ℕ} (mid : Coming) (r : IsReadied most n old mid) (symbol : Symbol) (place : ℕ)
+        → node ≡ Spare symbol → n ≤ 1 → d.reading ≡ Sent
         → SpareDiffers symbol n mid place → after ≡ before
         → ReadsLeaf d takes leaf.Spare node old new before after (read.Refused place)
     spare_reads_none {n = n} mid r symbol place node_is one sent m untold next fresh i left outer done known a = by a.shows a.stack_is
@@ -466,7 +506,8 @@ module _ (d : DescV) where
         bits_are : old.bits ≡ [] ++ m.bit ∷ m.later
         bits_are = sym r.same.bits ∙ m.bits ∙ ap (λ l. l ++ m.bit ∷ m.later) none
 
-        by : {left : Left} → LeafShows d i leaf.Spare left → IsStack d next fresh (left ∷ outer) done → Differs d next fresh takes node old new before after left outer done place
+        by : {left : Left} → LeafShows d i leaf.Spare left → IsStack d next fresh (left ∷ outer) done
+            → Differs d next fresh takes node old new before after left outer done place
         by (shows_spare {s = s} look) is =
             let not : ¬ IsSpare d.reading s (length done) (m.bit ∷ []) = λ h. m.not (moved h) in
             record {
@@ -475,7 +516,11 @@ module _ (d : DescV) where
               later = m.later;
               bits = bits_are;
               place_is = m.place_is ∙ behind_none ∙ none_more (length done);
-              followed = alive d (spare_alive d s done) (tt, within_limit d outer (length done) (omega (arith, a.place, a.limit, r.good.inside, r.same.place, r.same.limit)));
+              followed = alive d (spare_alive d s done) (
+                tt,
+                within_limit d outer (length done)
+                    (omega (arith, a.place, a.limit, r.good.inside, r.same.place, r.same.limit)),
+              );
               no_further = spare_differs d s outer done m.bit [] not;
               untold = untold;
             }
@@ -498,7 +543,8 @@ module _ (d : DescV) where
         → ReadsLeaf d takes (leaf.Lits at) node old new before after (read.Some (leaf.Lits at))
     literal_stays g {at} some untold next fresh i left outer done known a = by a.shows a.stack_is
       where
-        by : {left : Left} → LeafShows d i (leaf.Lits at) left → IsStack d next fresh (left ∷ outer) done → Keeps d next fresh takes node old new before after left outer done i (leaf.Lits at)
+        by : {left : Left} → LeafShows d i (leaf.Lits at) left → IsStack d next fresh (left ∷ outer) done
+            → Keeps d next fresh takes node old new before after left outer done i (leaf.Lits at)
         by (shows_lits {left = l} run look less is_left) is =
             record {
               now = symbols_left l;
@@ -507,19 +553,23 @@ module _ (d : DescV) where
               stays = λ still. record { stops = stops g some refl; wants = λ closed left done shown. literal_wants shown };
             }
 
-    literal_step : (run more : List Symbol) (done taken : List ℕ) → taken ≡ spelled run (length done) → Replaces d (symbols_left (run ++ more)) (symbols_left more) done taken (map Bit taken)
+    literal_step : (run more : List Symbol) (done taken : List ℕ) → taken ≡ spelled run (length done)
+        → Replaces d (symbols_left (run ++ more)) (symbols_left more) done taken (map Bit taken)
     literal_step run more done taken e =
         let P : List ℕ → Type 0 = λ l. Replaces d (symbols_left (run ++ more)) (symbols_left more) done l (map Bit l) in
         subst P (sym e) (take_symbols d run more done)
 
-    run_enough : (run more : List Symbol) {outer : List Left} {done : List ℕ} (taken : List ℕ) → length taken ≤ length run → NotBefore d (symbols_left (run ++ more)) outer done taken
+    run_enough : (run more : List Symbol) {outer : List Left} {done : List ℕ} (taken : List ℕ)
+        → length taken ≤ length run → NotBefore d (symbols_left (run ++ more)) outer done taken
     run_enough run more taken less = as_many d (λ b moves h. at_least b moves h)
       where
         at_least : {done : List ℕ} (b : List ℕ) (moves : List Move) → Completes d (symbols_left (run ++ more)) done b moves → length taken ≤ length b
-        at_least {done} b moves (completes_symbols same leave) = omega (arith, ap length same, length-spelled (run ++ more) (length done), length-append run more, less)
+        at_least {done} b moves (completes_symbols same leave) =
+            omega (arith, ap length same, length-spelled (run ++ more) (length done), length-append run more, less)
 
     -- the first symbols of what is left, and the others
-    literal_some : {next : ℕ} {fresh : Option ℕ} {most n : ℕ} (g : Given most n old new) (run more : List Symbol) {outer : List Left} {done : List ℕ} → length run ≡ n
+    literal_some : {next : ℕ} {fresh : Option ℕ} {most n : ℕ} (g : Given most n old new) (run more : List Symbol)
+        {outer : List Left} {done : List ℕ} → length run ≡ n
         → taken_of g ≡ spelled run (length done) → IsStack d next fresh (symbols_left (run ++ more) ∷ outer) done → AreOwed outer done old.bits
         → BitsTold takes node (taken_of g) before after
         → Takes d next fresh takes node old new before after (symbols_left (run ++ more)) outer done (symbols_left more)
@@ -528,7 +578,8 @@ module _ (d : DescV) where
         made_by g (literal_kept d run more (taken_of g) new.bits is (good_taken g) size_is (owed_split g outer done owed))
         (run_enough run more (taken_of g) (omega (arith, size_is))) (literal_step run more done (taken_of g) same) told
 
-    literal_all : {next : ℕ} {fresh : Option ℕ} {most n : ℕ} (g : Given most n old new) (run more : List Symbol) {outer : List Left} {done : List ℕ} → Known d → more ≡ [] → length run ≡ n
+    literal_all : {next : ℕ} {fresh : Option ℕ} {most n : ℕ} (g : Given most n old new) (run more : List Symbol)
+        {outer : List Left} {done : List ℕ} → Known d → more ≡ [] → length run ≡ n
         → taken_of g ≡ spelled run (length done) → IsStack d next fresh (symbols_left (run ++ more) ∷ outer) done → AreOwed outer done old.bits
         → BitsTold takes node (taken_of g) before after
         → Takes d next fresh takes node old new before after (symbols_left (run ++ more)) outer done none_left
@@ -552,16 +603,19 @@ module _ (d : DescV) where
         → ReadsLeaf d takes (leaf.Lits at) node old new before after (read.Some (leaf.Lits (at + n)))
     literal_reads_some {n = n} g {at} run node_is less some same told next fresh i left outer done known a = by a.shows a.stack_is
       where
-        by : {left : Left} → LeafShows d i (leaf.Lits at) left → IsStack d next fresh (left ∷ outer) done → Keeps d next fresh takes node old new before after left outer done i (leaf.Lits (at + n))
+        by : {left : Left} → LeafShows d i (leaf.Lits at) left → IsStack d next fresh (left ∷ outer) done
+            → Keeps d next fresh takes node old new before after left outer done i (leaf.Lits (at + n))
         by (shows_lits {left = l} other look begins is_left) is =
             let whole : l ≡ take n (drop at run) ++ drop (at + n) run = is_left ∙ ap (λ m. drop at m) (same_run i a.at node_is look) ∙ parts_of_run run at n in
-            let P : List Symbol → Type 0 = λ m. Takes d next fresh takes node old new before after (symbols_left m) outer done (symbols_left (drop (at + n) run)) in
+            let P : List Symbol → Type 0 = λ m. Takes d next fresh takes node old new before after (symbols_left m)
+            outer done (symbols_left (drop (at + n) run)) in
             let Q : List Symbol → Type 0 = λ m. IsStack d next fresh (symbols_left m ∷ outer) done in
             let here : taken_of g ≡ spelled (take n (drop at run)) (length done) = same ∙ ap (λ p. spelled (take n (drop at run)) p) a.place in
             record {
               now = symbols_left (drop (at + n) run);
               shows = shows_lits run (a.at ∙ ap (λ k. Some k) node_is) less refl;
-              on = subst P (sym whole) (literal_some g (take n (drop at run)) (drop (at + n) run) (first_long run at n (omega (arith, less))) here (subst Q whole is) a.owed told);
+              on = subst P (sym whole) (literal_some g (take n (drop at run)) (drop (at + n) run)
+                  (first_long run at n (omega (arith, less))) here (subst Q whole is) a.owed told);
               stays = λ still. absurd (omega (arith, some, not_taken g still));
             }
 
@@ -570,20 +624,24 @@ module _ (d : DescV) where
         → ReadsLeaf d takes (leaf.Lits at) node old new before after read.All
     literal_reads_all {n = n} g {at} run node_is all same told next fresh i left outer done known a = by a.shows a.stack_is
       where
-        by : {left : Left} → LeafShows d i (leaf.Lits at) left → IsStack d next fresh (left ∷ outer) done → Takes d next fresh takes node old new before after left outer done none_left
+        by : {left : Left} → LeafShows d i (leaf.Lits at) left → IsStack d next fresh (left ∷ outer) done
+            → Takes d next fresh takes node old new before after left outer done none_left
         by (shows_lits {left = l} other look begins is_left) is =
             let whole : l ≡ take n (drop at run) ++ drop (at + n) run = is_left ∙ ap (λ m. drop at m) (same_run i a.at node_is look) ∙ parts_of_run run at n in
             let P : List Symbol → Type 0 = λ m. Takes d next fresh takes node old new before after (symbols_left m) outer done none_left in
             let Q : List Symbol → Type 0 = λ m. IsStack d next fresh (symbols_left m ∷ outer) done in
             let here : taken_of g ≡ spelled (take n (drop at run)) (length done) = same ∙ ap (λ p. spelled (take n (drop at run)) p) a.place in
             let none = nil_from_length (drop (at + n) run) (omega (arith, all, length-drop (at + n) run)) in
-            subst P (sym whole) (literal_all g (take n (drop at run)) (drop (at + n) run) known none (first_long run at n (omega (arith, all))) here (subst Q whole is) a.owed told)
+            subst P (sym whole) (literal_all g (take n (drop at run)) (drop (at + n) run) known none
+            (first_long run at n (omega (arith, all))) here (subst Q whole is) a.owed told)
 
-    pub literal_reads_none : {most n k : ℕ} (mid : Coming) (r : IsReadied most n old mid) {at : ℕ} (run : List Symbol) (place : ℕ) → place ≡ mid.place + k → node ≡ Lits run → at + n ≤ length run → k < n
+    pub literal_reads_none : {most n k : ℕ} (mid : Coming) (r : IsReadied most n old mid) {at : ℕ} (run : List Symbol)
+        (place : ℕ) → place ≡ mid.place + k → node ≡ Lits run → at + n ≤ length run → k < n
         → take k mid.bits ≡ take k (spelled (take n (drop at run)) mid.place)
         → ¬ (take (k + 1) mid.bits ≡ take (k + 1) (spelled (take n (drop at run)) mid.place)) → after ≡ before
         → ReadsLeaf d takes (leaf.Lits at) node old new before after (read.Refused place)
-    literal_reads_none {n = n} {k = k} mid r {at} run place place_here node_is within less same not untold next fresh i left outer done known a = by a.shows a.stack_is
+    literal_reads_none {n = n} {k = k} mid r {at} run place place_here node_is within less same not untold next fresh
+        i left outer done known a = by a.shows a.stack_is
       where
         m : Mismatch (take n (drop at run)) mid.place mid.bits k
         m = mismatch (take n (drop at run)) mid.place mid.bits k (omega (arith, less, first_long run at n within)) (omega (arith, less, r.count)) same not
@@ -600,10 +658,13 @@ module _ (d : DescV) where
         others : List Symbol
         others = m.more ++ drop (at + n) run
 
-        by : {left : Left} → LeafShows d i (leaf.Lits at) left → IsStack d next fresh (left ∷ outer) done → Differs d next fresh takes node old new before after left outer done place
+        by : {left : Left} → LeafShows d i (leaf.Lits at) left → IsStack d next fresh (left ∷ outer) done
+            → Differs d next fresh takes node old new before after left outer done place
         by (shows_lits {left = l} other look begins is_left) is =
             let whole : l ≡ m.run ++ m.s ∷ others =
-            is_left ∙ ap (λ x. drop at x) (same_run i a.at node_is look) ∙ parts_of_run run at n ∙ ap (λ x. x ++ drop (at + n) run) m.split ∙ append_assoc m.run (m.s ∷ m.more) (drop (at + n) run) in
+            is_left ∙ ap (λ x. drop at x) (same_run i a.at node_is look)
+            ∙ parts_of_run run at n ∙ ap (λ x. x ++ drop (at + n) run) m.split ∙ append_assoc m.run (m.s ∷ m.more)
+            (drop (at + n) run) in
             let P : List Symbol → Type 0 = λ x. Differs d next fresh takes node old new before after (symbols_left x) outer done place in
             subst P (sym whole)
             (record {
@@ -612,7 +673,8 @@ module _ (d : DescV) where
               later = m.later;
               bits = sym r.same.bits ∙ m.is ∙ ap (λ x. x ++ m.bit ∷ m.later) alike_is;
               place_is = place_here ∙ ap (λ p. p + k) mid_at ∙ ap (λ j. length done + j) (sym alike_long);
-              followed = symbols_follow d m.run (m.s ∷ others) outer done (within_limit d outer _ (omega (arith, alike_long, less, mid_at, r.same.limit, r.count, a.limit)));
+              followed = symbols_follow d m.run (m.s ∷ others) outer done
+                  (within_limit d outer _ (omega (arith, alike_long, less, mid_at, r.same.limit, r.count, a.limit)));
               no_further = symbols_differ d m.run others m.s outer done m.bit [] (λ e. m.not (e ∙ ap (λ p. symbol_bit m.s (p + length m.run)) (sym mid_at)));
               untold = untold;
             })

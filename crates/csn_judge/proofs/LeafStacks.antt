@@ -1,5 +1,6 @@
 -- Leaves that take bits stay where they are: what is kept when bits are taken, and where the innermost window ends.
-use Rattle.std.proofs.Common.{◌≡◌, ℕ, suc, ◌+◌, ◌<◌, ◌≤◌, ◌⊎◌, inl, inr, Bool, true, List, [], ◌∷◌, ◌++◌, length, sym, ◌∙◌, ap, subst, arith, append_assoc, append-nil, length-append, Option, Some, slice_get}
+use Rattle.std.proofs.Common.{◌≡◌, ℕ, suc, ◌+◌, ◌<◌, ◌≤◌, ◌⊎◌, inl, inr, Bool, true, List, [], ◌∷◌, ◌++◌, length, sym}
+use Rattle.std.proofs.Common.{◌∙◌, ap, subst, arith, append_assoc, append-nil, length-append, Option, Some, slice_get}
 use Rattle.std.proofs.lemmas.Bool.Decides.{leb_tells}
 use Rattle.csn_bits.specs.Octets.{IsBits}
 use Rattle.csn_desc.specs.declared.symbol.Symbol.{Symbol}
@@ -7,9 +8,13 @@ use Rattle.csn_desc.specs.declared.node.Node.TheVariants.{Lits}
 use Rattle.csn_desc.specs.Nodes.{DescV}
 use Rattle.csn_desc.specs.Values.{Values}
 use Rattle.csn_judge.specs.Known.{Known}
-use Rattle.csn_judge.specs.Left.{Left, all_left, bits_left, symbols_left, spare_left, pad_left, rest_left, choice_left, none_left, window_left, parts_left, turns_left, free_left, cut_left, lead_left}
+use Rattle.csn_judge.specs.Left.{Left, all_left, bits_left, symbols_left, spare_left, pad_left, rest_left}
+use Rattle.csn_judge.specs.Left.{choice_left, none_left, window_left, parts_left, turns_left, free_left, cut_left}
+use Rattle.csn_judge.specs.Left.{lead_left}
 use Rattle.csn_judge.specs.Remains.{Within, Passes}
-use Rattle.csn_judge.specs.Inside.{Inside, inside_none, inside_choice, inside_label, inside_window, inside_parts, inside_turns, inside_free, inside_lead, IsLeftOf, of_field, of_literal, of_spare, of_pad, of_pad_begun, of_rest, of_read, IsStack, stack_node, AreOwed}
+use Rattle.csn_judge.specs.Inside.{Inside, inside_none, inside_choice, inside_label, inside_window, inside_parts}
+use Rattle.csn_judge.specs.Inside.{inside_turns, inside_free, inside_lead, IsLeftOf, of_field, of_literal, of_spare}
+use Rattle.csn_judge.specs.Inside.{of_pad, of_pad_begun, of_rest, of_read, IsStack, stack_node, AreOwed}
 use Rattle.csn_judge.specs.Shown.{limit_in}
 use Rattle.csn_judge.proofs.StepFacts.{within_along}
 use Rattle.csn_judge.proofs.Closing.{Full, Ends, passes_of, closed_last, closed_full}
@@ -56,7 +61,8 @@ taken_inside d outer done (a ∷ taken) ahead order (inr owed) = inl (omega (ari
 
 module _ (d : DescV) where
   -- where no bit may be taken, what can end with no bits does
-  pub closed_passes : {coming : Coming} {left : Left} {outer : List Left} {done : List ℕ} → IsGood coming → (coming.ended ≡ true) ⊎ (coming.place ≡ coming.limit)
+  pub closed_passes : {coming : Coming} {left : Left} {outer : List Left} {done : List ℕ}
+      → IsGood coming → (coming.ended ≡ true) ⊎ (coming.place ≡ coming.limit)
       → coming.place ≡ length done → coming.limit ≡ limit_in outer → Ends d left done
       → Passes d coming.ended (left ∷ outer) (none_left ∷ outer) done [] coming.bits []
   closed_passes {coming} {left} {outer} {done} good (inl over) place limit ends =
@@ -74,8 +80,10 @@ module _ (d : DescV) where
   owed_taken done taken ahead (inside_window k n at counts end ready inner) order owed = owed_taken done taken ahead inner order owed
   owed_taken done taken ahead (inside_parts k start v0 parts before at split so_far earlier none fits well ready inner) order owed =
       owed_taken done taken ahead inner (omega (arith, order, earlier)) owed
-  owed_taken done taken ahead (inside_turns k start at turn earlier none ready was turns inner) order owed = owed_taken done taken ahead inner (omega (arith, order, earlier)) owed
-  owed_taken done taken ahead (inside_free k start at so_far earlier ready was turns inner) order owed = owed_taken done taken ahead inner (omega (arith, order, earlier)) owed
+  owed_taken done taken ahead (inside_turns k start at turn earlier none ready was turns inner) order owed =
+      owed_taken done taken ahead inner (omega (arith, order, earlier)) owed
+  owed_taken done taken ahead (inside_free k start at so_far earlier ready was turns inner) order owed =
+      owed_taken done taken ahead inner (omega (arith, order, earlier)) owed
   owed_taken done taken ahead (inside_lead {outer = outer} k start v0 parts before at split so_far earlier fits well ready inner) order owed =
       (taken_inside d outer done taken ahead order owed.0, owed_taken done taken ahead inner (omega (arith, order, earlier)) owed.1)
 
@@ -97,9 +105,12 @@ module _ (d : DescV) where
         owed = owed_taken done taken ahead inner order owed;
       }
 
-  pub field_done : {next : ℕ} {fresh : Option ℕ} → Known d → {n : ℕ} {outer : List Left} {done : List ℕ} → IsStack d next fresh (bits_left n ∷ outer) done → n ≡ 0 → IsStack d next fresh (none_left ∷ outer) done
+  pub field_done : {next : ℕ} {fresh : Option ℕ} → Known d → {n : ℕ} {outer : List Left} {done : List ℕ}
+      → IsStack d next fresh (bits_left n ∷ outer) done → n ≡ 0 → IsStack d next fresh (none_left ∷ outer) done
   field_done known (stack_node i from v bits ready (of_field all at counts place order up) inner) none =
-      stack_node i from v bits ready (of_read (field_read d 12 known.description known.certified at counts (omega (arith, place, none)) order ready.widths bits) up) inner
+      stack_node i from v bits ready
+      (of_read (field_read d 12 known.description known.certified at counts (omega (arith, place, none))
+      order ready.widths bits) up) inner
 
   pub literal_kept : {next : ℕ} {fresh : Option ℕ} (run more : List Symbol) {outer : List Left} {done : List ℕ} (taken ahead : List ℕ)
       → IsStack d next fresh (symbols_left (run ++ more) ∷ outer) done → IsBits taken → length taken ≡ length run → AreOwed outer done (taken ++ ahead)
@@ -113,7 +124,9 @@ module _ (d : DescV) where
         owed = owed_taken done taken ahead inner (omega (arith, place)) owed;
       }
 
-  pub literal_done : {next : ℕ} {fresh : Option ℕ} → Known d → {run : List Symbol} {outer : List Left} {done : List ℕ} → IsStack d next fresh (symbols_left run ∷ outer) done → run ≡ [] → IsStack d next fresh (none_left ∷ outer) done
+  pub literal_done : {next : ℕ} {fresh : Option ℕ} → Known d → {run : List Symbol} {outer : List Left} {done : List ℕ}
+      → IsStack d next fresh (symbols_left run ∷ outer) done → run ≡ [] → IsStack d next fresh (none_left ∷ outer)
+      done
   literal_done known {run} {outer} {done} (stack_node i from v bits ready (of_literal before at place up) inner) none =
       let whole : slice_get d.nodes i ≡ Some (Lits before) = at ∙ ap (λ l. Some (Lits (before ++ l))) none ∙ ap (λ l. Some (Lits l)) (append-nil before) in
       stack_node i from v bits ready (of_read (literal_read d 12 known.description known.certified whole place) up) inner
@@ -136,15 +149,19 @@ module _ (d : DescV) where
       record { stack_is = by left; owed = owed_taken done taken ahead inner (order left) owed }
     where
       by : {begun : Bool} → IsLeftOf d next (pad_left begun) i from (length outer) v done → IsStack d next fresh (pad_left true ∷ outer) (done ++ taken)
-      by (of_pad at place up) = stack_node i from v (IsBits-append done taken bits good) ready (of_pad_begun at (omega (arith, place, some, length-append done taken)) up) inner
-      by (of_pad_begun at before up) = stack_node i from v (IsBits-append done taken bits good) ready (of_pad_begun at (omega (arith, before, length-append done taken)) up) inner
+      by (of_pad at place up) = stack_node i from v (IsBits-append done taken bits good) ready
+          (of_pad_begun at (omega (arith, place, some, length-append done taken)) up) inner
+      by (of_pad_begun at before up) = stack_node i from v (IsBits-append done taken bits good) ready
+          (of_pad_begun at (omega (arith, before, length-append done taken)) up) inner
 
       order : {begun : Bool} → IsLeftOf d next (pad_left begun) i from (length outer) v done → from ≤ length done
       order (of_pad at place up) = omega (arith, place)
       order (of_pad_begun at before up) = omega (arith, before)
 
-  pub pad_done : {next : ℕ} {fresh : Option ℕ} → Known d → {outer : List Left} {done : List ℕ} → IsStack d next fresh (pad_left true ∷ outer) done → IsStack d next fresh (none_left ∷ outer) done
-  pad_done known (stack_node i from v bits ready (of_pad_begun at before up) inner) = stack_node i from v bits ready (of_read (pad_read d 12 known.description known.certified at before) up) inner
+  pub pad_done : {next : ℕ} {fresh : Option ℕ} → Known d → {outer : List Left} {done : List ℕ}
+      → IsStack d next fresh (pad_left true ∷ outer) done → IsStack d next fresh (none_left ∷ outer) done
+  pad_done known (stack_node i from v bits ready (of_pad_begun at before up) inner) = stack_node i from v bits ready
+      (of_read (pad_read d 12 known.description known.certified at before) up) inner
 
   pub rest_kept : {next : ℕ} {fresh : Option ℕ} {outer : List Left} {done : List ℕ} (taken ahead : List ℕ)
       → IsStack d next fresh (rest_left ∷ outer) done → IsBits taken → AreOwed outer done (taken ++ ahead)
@@ -155,5 +172,7 @@ module _ (d : DescV) where
         owed = owed_taken done taken ahead inner order owed;
       }
 
-  pub rest_done : {next : ℕ} {fresh : Option ℕ} → Known d → {outer : List Left} {done : List ℕ} → IsStack d next fresh (rest_left ∷ outer) done → IsStack d next fresh (none_left ∷ outer) done
-  rest_done known (stack_node i from v bits ready (of_rest at order up) inner) = stack_node i from v bits ready (of_read (rest_read d 12 known.description known.certified at order) up) inner
+  pub rest_done : {next : ℕ} {fresh : Option ℕ} → Known d → {outer : List Left} {done : List ℕ}
+      → IsStack d next fresh (rest_left ∷ outer) done → IsStack d next fresh (none_left ∷ outer) done
+  rest_done known (stack_node i from v bits ready (of_rest at order up) inner) = stack_node i from v bits ready
+      (of_read (rest_read d 12 known.description known.certified at order) up) inner

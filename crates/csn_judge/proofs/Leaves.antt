@@ -1,5 +1,6 @@
 -- The forms of literals, fields, spare bits, padding and rests: how bits are taken, and when nothing is left.
-use Rattle.std.proofs.Common.{◌≡◌, ℕ, suc, ◌+◌, ◌<◌, ◌≤◌, Bool, true, false, List, [], ◌∷◌, ◌++◌, length, map, refl, sym, ◌∙◌, ap, subst, arith, append_assoc, append-nil, length-append}
+use Rattle.std.proofs.Common.{◌≡◌, ℕ, suc, ◌+◌, ◌<◌, ◌≤◌, Bool, true, false, List, [], ◌∷◌, ◌++◌, length, map, refl}
+use Rattle.std.proofs.Common.{sym, ◌∙◌, ap, subst, arith, append_assoc, append-nil, length-append}
 use Rattle.std.specs.Prelude.{replicate}
 use Rattle.std.proofs.lemmas.List.{map-append, append_cancel_left, nil_from_length, length-replicate, replicate-append-replicate}
 use Rattle.csn_bits.specs.Octets.{IsBits}
@@ -12,7 +13,10 @@ use Rattle.csn_desc.specs.declared.moves.Move.TheVariants.{Bit, Leave}
 use Rattle.csn_desc.specs.Nodes.{DescV}
 use Rattle.csn_desc.specs.Spelled.{spelled, IsSpare}
 use Rattle.csn_desc.proofs.BitFacts.{IsBits-front, IsBits-along, length-spelled}
-use Rattle.csn_judge.specs.Left.{Left, bits_left, symbols_left, spare_left, pad_left, rest_left, none_left, Completes, completes_bits, completes_symbols, completes_spare, completes_pad, completes_rest, completes_none, Begins, begins_whole, begins_bits, begins_symbols, begins_spare, begins_pad}
+use Rattle.csn_judge.specs.Left.{Left, bits_left, symbols_left, spare_left, pad_left, rest_left, none_left, Completes}
+use Rattle.csn_judge.specs.Left.{completes_bits, completes_symbols, completes_spare, completes_pad, completes_rest}
+use Rattle.csn_judge.specs.Left.{completes_none, Begins, begins_whole, begins_bits, begins_symbols, begins_spare}
+use Rattle.csn_judge.specs.Left.{begins_pad}
 use Rattle.csn_judge.specs.Remains.{IsUpTo}
 use Rattle.csn_judge.proofs.StepFacts.{Replaces, Alike}
 use Rattle.csn_bits.proofs.Packing.{IsBits-append}
@@ -31,7 +35,9 @@ spelled-append (s ∷ run) more place =
     let rest = spelled-append run more (suc place) ∙ ap (λ p. spelled run (suc place) ++ spelled more p) same in
     cc
 
-spare_spelled : (s : Symbol) (place : ℕ) (a b : List ℕ) → spelled (replicate (length (a ++ b)) s) place ≡ spelled (replicate (length a) s) place ++ spelled (replicate (length b) s) (place + length a)
+spare_spelled : (s : Symbol) (place : ℕ) (a b : List ℕ)
+    → spelled (replicate (length (a ++ b)) s) place ≡ spelled (replicate (length a) s) place ++ spelled
+    (replicate (length b) s) (place + length a)
 spare_spelled s place a b =
     ap (λ k. spelled (replicate k s) place) (length-append a b)
     ∙ ap (λ l. spelled l place) (sym (replicate-append-replicate (length a) (length b) s))
@@ -57,18 +63,26 @@ halves (k ∷ a) b (m ∷ c) e size same =
 pub spare_front : (r : Reading) (s : Symbol) (place : ℕ) (a b : List ℕ) → IsSpare r s place (a ++ b) → IsSpare r s place a
 spare_front Received s place a b h = IsBits-front a b h
 spare_front Sent s place a b h =
-    let both = halves a b (spelled (replicate (length a) s) place) (spelled (replicate (length b) s) (place + length a)) (sym (length-spelled (replicate (length a) s) place ∙ length-replicate (length a) s)) (h ∙ spare_spelled s place a b) in
+    let both = halves a b (spelled (replicate (length a) s) place)
+    (spelled (replicate (length b) s) (place + length a))
+    (sym (length-spelled (replicate (length a) s) place ∙ length-replicate (length a) s))
+    (h ∙ spare_spelled s place a b) in
     both.fronts
 
 pub spare_back : (r : Reading) (s : Symbol) (place : ℕ) (a b : List ℕ) → IsSpare r s place (a ++ b) → IsSpare r s (place + length a) b
 spare_back Received s place a b h = bits_behind a b h
 spare_back Sent s place a b h =
-    let both = halves a b (spelled (replicate (length a) s) place) (spelled (replicate (length b) s) (place + length a)) (sym (length-spelled (replicate (length a) s) place ∙ length-replicate (length a) s)) (h ∙ spare_spelled s place a b) in
+    let both = halves a b (spelled (replicate (length a) s) place)
+    (spelled (replicate (length b) s) (place + length a))
+    (sym (length-spelled (replicate (length a) s) place ∙ length-replicate (length a) s))
+    (h ∙ spare_spelled s place a b) in
     both.backs
 
 pub spare_joined : (r : Reading) (s : Symbol) (place : ℕ) (a b : List ℕ) → IsSpare r s place a → IsSpare r s (place + length a) b → IsSpare r s place (a ++ b)
 spare_joined Received s place a b h k = IsBits-append a b h k
-spare_joined Sent s place a b h k = let front : a ≡ spelled (replicate (length a) s) place = h in let back : b ≡ spelled (replicate (length b) s) (place + length a) = k in ap (λ l. l ++ b) front ∙ ap (λ l. spelled (replicate (length a) s) place ++ l) back ∙ sym (spare_spelled s place a b)
+spare_joined Sent s place a b h k = let front : a ≡ spelled (replicate (length a) s) place = h in
+    let back : b ≡ spelled (replicate (length b) s) (place + length a) = k in ap (λ l. l ++ b) front
+    ∙ ap (λ l. spelled (replicate (length a) s) place ++ l) back ∙ sym (spare_spelled s place a b)
 
 pub spare_at : (r : Reading) (s : Symbol) {place other : ℕ} (b : List ℕ) → place ≡ other → IsSpare r s place b → IsSpare r s other b
 spare_at r s b e h = let P : ℕ → Type 0 = λ p. IsSpare r s p b in subst P e h
@@ -114,7 +128,8 @@ module _ (d : DescV) where
   Starts none_left done b = b ≡ []
   Starts _ done b = ⊥
 
-  fills : {left : Left} {done b : List ℕ} {moves : List Move} → IsLeaf left → Completes d left done b moves → Fills left done b × (moves ≡ map Bit b ++ Leave ∷ [])
+  fills : {left : Left} {done b : List ℕ} {moves : List Move} → IsLeaf left → Completes d left done b moves
+      → Fills left done b × (moves ≡ map Bit b ++ Leave ∷ [])
   fills is_bits (completes_bits size bits is) = ((size, bits), is)
   fills is_symbols (completes_symbols same is) = (same, is)
   fills is_spare (completes_spare size spare is) = ((size, spare), is)
@@ -122,7 +137,8 @@ module _ (d : DescV) where
   fills is_rest (completes_rest bits is) = (bits, is)
   fills is_none (completes_none none is) = (none, is ∙ ap (λ l. map Bit l ++ Leave ∷ []) (sym none))
 
-  filled : {left : Left} {done b : List ℕ} {moves : List Move} → IsLeaf left → Fills left done b → moves ≡ map Bit b ++ Leave ∷ [] → Completes d left done b moves
+  filled : {left : Left} {done b : List ℕ} {moves : List Move} → IsLeaf left → Fills left done b
+      → moves ≡ map Bit b ++ Leave ∷ [] → Completes d left done b moves
   filled is_bits h is = completes_bits h.0 h.1 is
   filled is_symbols h is = completes_symbols h is
   filled is_spare h is = completes_spare h.0 h.1 is
@@ -167,7 +183,10 @@ module _ (d : DescV) where
   no_window is_none place = tt
 
   -- a leaf becomes another one by taking bits, where that goes on behind them
-  takes : {old new : Left} {done : List ℕ} (taken : List ℕ) → IsLeaf old → IsLeaf new → SameBits (λ b. Fills old done (taken ++ b)) (λ b. Fills new (done ++ taken) b) → SameBits (λ b. Starts old done (taken ++ b)) (λ b. Starts new (done ++ taken) b) → Replaces d old new done taken (map Bit taken)
+  takes : {old new : Left} {done : List ℕ} (taken : List ℕ)
+      → IsLeaf old → IsLeaf new → SameBits (λ b. Fills old done (taken ++ b)) (λ b. Fills new (done ++ taken) b)
+      → SameBits (λ b. Starts old done (taken ++ b)) (λ b. Starts new (done ++ taken) b)
+      → Replaces d old new done taken (map Bit taken)
   takes taken old new all some =
       record {
         completes = λ b moves h.
@@ -183,7 +202,8 @@ module _ (d : DescV) where
       }
 
   -- and one that has the same bits
-  same : {old new : Left} {done : List ℕ} → IsLeaf old → IsLeaf new → SameBits (λ b. Fills old done b) (λ b. Fills new done b) → SameBits (λ b. Starts old done b) (λ b. Starts new done b) → Alike d old new done
+  same : {old new : Left} {done : List ℕ} → IsLeaf old → IsLeaf new → SameBits (λ b. Fills old done b)
+      (λ b. Fills new done b) → SameBits (λ b. Starts old done b) (λ b. Starts new done b) → Alike d old new done
   same old new all some =
       record {
         completes = λ b moves h. let found = fills old h in filled new (all.on b found.0) found.1;
@@ -210,7 +230,9 @@ module _ (d : DescV) where
       })
 
   -- of a literal
-  pub take_symbols : (run more : List Symbol) (done : List ℕ) → Replaces d (symbols_left (run ++ more)) (symbols_left more) done (spelled run (length done)) (map Bit (spelled run (length done)))
+  pub take_symbols : (run more : List Symbol) (done : List ℕ)
+      → Replaces d (symbols_left (run ++ more)) (symbols_left more) done (spelled run (length done))
+      (map Bit (spelled run (length done)))
   take_symbols run more done =
       takes front is_symbols is_symbols
       (record {
@@ -235,7 +257,8 @@ module _ (d : DescV) where
       whole = spelled-append run more (length done) ∙ ap (λ p. front ++ spelled more p) (sym place)
 
   -- of a spare part
-  pub take_spare : (s : Symbol) (done : List ℕ) (a : ℕ) → IsSpare d.reading s (length done) (a ∷ []) → Replaces d (spare_left s) none_left done (a ∷ []) (Bit a ∷ [])
+  pub take_spare : (s : Symbol) (done : List ℕ) (a : ℕ) → IsSpare d.reading s (length done) (a ∷ [])
+      → Replaces d (spare_left s) none_left done (a ∷ []) (Bit a ∷ [])
   take_spare s done a good =
       takes (a ∷ []) is_spare is_none
       (record { on = λ b h. nil_from_length b (omega (arith, h.0)); back = λ b none. (omega (arith, ap length none), whole b none) })
@@ -244,7 +267,8 @@ module _ (d : DescV) where
       whole : (b : List ℕ) → b ≡ [] → IsSpare d.reading s (length done) (a ∷ b)
       whole b none = let P : List ℕ → Type 0 = λ l. IsSpare d.reading s (length done) (a ∷ l) in subst P (sym none) good
 
-  pub take_pad : (begun : Bool) (done taken : List ℕ) → 0 < length taken → IsSpare d.reading Low (length done) taken → Replaces d (pad_left begun) (pad_left true) done taken (map Bit taken)
+  pub take_pad : (begun : Bool) (done taken : List ℕ) → 0 < length taken → IsSpare d.reading Low (length done) taken
+      → Replaces d (pad_left begun) (pad_left true) done taken (map Bit taken)
   take_pad begun done taken some good =
       takes taken is_pad is_pad
       (record {

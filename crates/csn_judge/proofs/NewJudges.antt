@@ -16,7 +16,9 @@ use Rattle.csn_judge.proofs.Verdicts.{stands_new}
 abbrev pub new_judge : Machine → Inside
 new_judge machine = record { machine = machine; held = record { number = 0; count = 0 }; place = 0; limit = 4294967295; seen = 0; refused = None }
 
-module _ (machine : Machine) {d : DescV} (plan : machine.plan.now ≡ d) (known_there : Known d) (frames : machine.frames.items ≡ frame.Begin 0 ∷ []) (values : machine.values.items ≡ []) (pace : machine.pace ≡ record { next = 1; again = false }) where
+module _ (machine : Machine) {d : DescV} (plan : machine.plan.now ≡ d) (known_there : Known d)
+    (frames : machine.frames.items ≡ frame.Begin 0 ∷ []) (values : machine.values.items ≡ [])
+    (pace : machine.pace ≡ record { next = 1; again = false }) where
   known : Known machine.plan.now
   known = let P : DescV → Type 0 = λ d. Known d in subst P (sym plan) known_there
 
@@ -36,4 +38,6 @@ module _ (machine : Machine) {d : DescV} (plan : machine.plan.now ≡ d) (known_
   pub judges_none : EmptyBlocksAreFollowed → JudgesFor (judge_of (new_judge machine)) [] []
   judges_none empties =
       judges_on (all_left 0 [] ∷ []) [] refl refl refl begun
-      (stands_new machine.plan.now (moving machine.plan.now known)) (new_goes machine.plan.now (empties machine.plan.now known.description)) (λ some. absurd (omega (arith, some)))
+      (stands_new machine.plan.now (moving machine.plan.now known))
+      (new_goes machine.plan.now (empties machine.plan.now known.description))
+      (λ some. absurd (omega (arith, some)))

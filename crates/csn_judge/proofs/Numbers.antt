@@ -1,5 +1,7 @@
 -- Bits of numbers.
-use Rattle.std.proofs.Common.{◌≡◌, ℕ, ◌+◌, ◌-◌, ◌*◌, ◌/◌, ◌%◌, ◌^◌, ◌<◌, ◌≤◌, min, List, [], ◌∷◌, ◌++◌, length, take, drop, get_or, refl, sym, ap, ◌∙◌, arith, length-append, length-drop, take-append-drop, append_assoc, ◌⊎◌, inl, inr}
+use Rattle.std.proofs.Common.{◌≡◌, ℕ, ◌+◌, ◌-◌, ◌*◌, ◌/◌, ◌%◌, ◌^◌, ◌<◌, ◌≤◌, min, List, [], ◌∷◌, ◌++◌, length, take}
+use Rattle.std.proofs.Common.{drop, get_or, refl, sym, ap, ◌∙◌, arith, length-append, length-drop, take-append-drop}
+use Rattle.std.proofs.Common.{append_assoc, ◌⊎◌, inl, inr}
 use Rattle.std.specs.Int.Bits.{bit_or}
 use Rattle.std.proofs.Math.Nat.{mod-eq_of_lt}
 use Rattle.std.proofs.Math.Seq.{take-append-add}
@@ -9,7 +11,9 @@ use Rattle.std.proofs.lemmas.List.{take_at, drop_at, drop_more, drop-drop, get_o
 use Rattle.csn_judge.specs.Coming.{AreOctets, bits_from}
 use Rattle.csn_bits.specs.Octets.{IsBits, bits_of_octet, bits_of_octets}
 use Rattle.csn_bits.specs.Numbers.{number_of, low_bits}
-use Rattle.csn_bits.proofs.NumberFacts.{length-low_bits, IsBits-low_bits, number_of-low_bits, low_bits-split, low_bits-masked, masked_small, low_bits-first, low_bits-shifted, low_bits-octet}
+use Rattle.csn_bits.proofs.NumberFacts.{length-low_bits, IsBits-low_bits, number_of-low_bits, low_bits-split}
+use Rattle.csn_bits.proofs.NumberFacts.{low_bits-masked, masked_small, low_bits-first, low_bits-shifted}
+use Rattle.csn_bits.proofs.NumberFacts.{low_bits-octet}
 use Rattle.csn_bits.proofs.Packing.{IsBits-append, IsBits-bits_of_octets, IsBits-take, length-bits_of_octets, drop-bits_of_octets, bits_of_octets-append}
 
 -- ---- what the source does with its buffer
@@ -71,7 +75,9 @@ from_octet octets at left n o within some is read small =
     ap (λ (l : List ℕ). take left l) whole ∙ ap (λ (k : ℕ). take k (x ++ (y ++ rest))) count ∙ take-append-add x (y ++ rest) (left - n) in
     cut ∙ ap (λ (l : List ℕ). x ++ l) (ending (cases_lt left 8))
   where
-    ending : (left < 8) ⊎ (8 ≤ left) → take (left - n) (low_bits (8 - n) o ++ bits_of_octets (drop (at + 1) octets)) ≡ take (left - n) (bits_of_octets (drop (at + 1) octets))
+    ending : (left < 8) ⊎ (8 ≤ left)
+        → take (left - n) (low_bits (8 - n) o ++ bits_of_octets (drop (at + 1) octets)) ≡ take (left - n)
+        (bits_of_octets (drop (at + 1) octets))
     ending (inl short) = (let none : left - n ≡ 0 = omega arith in rw none refl)
     ending (inr long) = (let none : 8 - n ≡ 0 = omega arith in rw none refl)
 

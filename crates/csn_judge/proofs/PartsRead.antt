@@ -20,12 +20,14 @@ use Rattle.csn_judge.proofs.TurningSame.{turns_since}
 
 module _ (d : DescV) {S : Type 0} (takes : S → Move → Node → S → Type 0) where
   -- the parts so far have come to where the next one begins, and a step with it is paid for
-  pub record PartBegun (first : StateV) (s t : S) (j : ℕ) (pace next : Pace) (frames : List Frame) (values : List Number) (coming : Coming) (behind : Frame) : Type 0 where
+  pub record PartBegun (first : StateV) (s t : S) (j : ℕ) (pace next : Pace) (frames : List Frame)
+      (values : List Number) (coming : Coming) (behind : Frame) : Type 0 where
     pub begins : NextBegins d pace j frames
     pub going : Going d takes first (state d takes t values next coming (frame.Begin j ∷ behind ∷ frames)) s t 0 0
     pub paid : 1 + credit_in d (state d takes t values next coming (frame.Begin j ∷ behind ∷ frames)) ≤ credit_in d first
 
-  pub part_begun : {first : StateV} {s t : S} {k at count j : ℕ} {frames : List Frame} {values : List Number} {pace next : Pace} {coming : Coming} (parts : List ℕ)
+  pub part_begun : {first : StateV} {s t : S} {k at count j : ℕ} {frames : List Frame} {values : List Number}
+      {pace next : Pace} {coming : Coming} (parts : List ℕ)
       → slice_get d.nodes k ≡ Some (Seq parts) → slice_get parts at ≡ Some j → StandsSomewhere d first
       → Going d takes first (state d takes t values pace coming (frame.Seq k at count ∷ frames)) s t 0 0
       → next ≡ record { next = j + 1; again = pace.again || nat_lt j pace.next }
@@ -35,11 +37,14 @@ module _ (d : DescV) {S : Type 0} (takes : S → Move → Node → S → Type 0)
       let paced : next ≡ begun_by j pace = is_next ∙ ap (λ n. record { next = n; again = pace.again || nat_lt j pace.next }) one in
       let now = going_stands d takes refl going some in
       let begins = next_begins d pace parts here there now.known now.stands.shows now.stands.stack_is in
-      let pays = begun_pays {frames = frames} {pace = pace} 0 (length coming.bits) 1 (frame.Seq k at count) (frame.Seq k (at + 1) count) refl paced refl begins.is_node (inl begins.rises) (omega arith) (omega arith) in
+      let pays = begun_pays {frames = frames} {pace = pace} 0 (length coming.bits) 1 (frame.Seq k at count)
+      (frame.Seq k (at + 1) count) refl paced refl begins.is_node (inl begins.rises) (omega arith)
+      (omega arith) in
       record {
         begins = begins;
         going = going_more d takes (state d takes t values next coming (frame.Begin j ∷ frame.Seq k (at + 1) count ∷ frames)) t 0 refl going
-            (λ stack done stands. GoesOn-along d takes t values pace coming refl refl paced (begins_next d takes t values pace coming parts here there now.known stands))
+            (λ stack done stands. GoesOn-along d takes t values pace coming refl refl paced
+            (begins_next d takes t values pace coming parts here there now.known stands))
             (omega (arith, pays.0)) (omega (arith, pays.1));
         paid = omega (arith, pays.0, going.less);
       }

@@ -1,5 +1,6 @@
 -- Steps are paid for by credit.
-use Rattle.std.proofs.Common.{◌≡◌, ℕ, suc, ◌+◌, ◌-◌, ◌*◌, ◌<◌, ◌≤◌, ◌⊎◌, inl, inr, ◌||◌, nat_lt, Bool, true, false, if◌then◌else◌, List, ◌∷◌, length, refl, sym, ◌∙◌, ap, subst, arith, Some, None}
+use Rattle.std.proofs.Common.{◌≡◌, ℕ, suc, ◌+◌, ◌-◌, ◌*◌, ◌<◌, ◌≤◌, ◌⊎◌, inl, inr, ◌||◌, nat_lt, Bool, true, false}
+use Rattle.std.proofs.Common.{if◌then◌else◌, List, ◌∷◌, length, refl, sym, ◌∙◌, ap, subst, arith, Some, None}
 use Rattle.std.proofs.lemmas.Bool.{ltb-false}
 use Rattle.csn_judge.specs.declared.frame.Frame.{Frame}
 use Rattle.csn_judge.specs.declared.frame.Frame.TheVariants as frame
@@ -38,7 +39,9 @@ pub begun_credit : {nodes part : ℕ} (top behind : Frame) (frames : List Frame)
 begun_credit {nodes} {part} top behind frames pace bits within may =
     omega (
       arith,
-      added (weight_of top) (weight_of behind) (weights_of frames) (4 * (nodes - pace.next) + (if pace.again then 0 else 4 * nodes)) (4 * (nodes - suc part) + (if pace.again || nat_lt part pace.next then 0 else 4 * nodes)) (6 * nodes * bits)
+      added (weight_of top) (weight_of behind) (weights_of frames)
+          (4 * (nodes - pace.next) + (if pace.again then 0 else 4 * nodes))
+          (4 * (nodes - suc part) + (if pace.again || nat_lt part pace.next then 0 else 4 * nodes)) (6 * nodes * bits)
           (fewer nodes pace.next part pace.again within may),
     )
 
@@ -47,17 +50,20 @@ pub begun_pays : {nodes part steps_after : ℕ} {frames frames_after : List Fram
     → frames_after ≡ frame.Begin part ∷ behind ∷ frames → pace_after ≡ begun_by part pace → steps_after ≡ steps + spent
     → part < nodes → (pace.next ≤ part) ⊎ (pace.again ≡ false) → spent + weight_of behind ≤ 1 + weight_of top → weight_of behind ≤ weight_of top
     → Pays (credit_of nodes (top ∷ frames) pace bits) (credit_of nodes frames_after pace_after bits) steps steps_after Moved
-begun_pays {nodes} {part} {frames = frames} {frames_after} {pace} {pace_after} steps bits spent top behind frames_is pace_is steps_is within may enough lighter =
+begun_pays {nodes} {part} {frames = frames} {frames_after} {pace} {pace_after} steps bits spent top behind frames_is
+    pace_is steps_is within may enough lighter =
     let less = begun_credit top behind frames pace bits within may in
     let same = ap (λ l. credit_of nodes l pace_after bits) frames_is ∙ ap (λ p. credit_of nodes (frame.Begin part ∷ behind ∷ frames) p bits) pace_is in
     (omega (arith, less, enough, same, steps_is), omega (arith, less, lighter, same))
 
 -- the bits that come may have been made ready
-pub begun_pays_on : {nodes part steps_after bits bits_after : ℕ} {frames frames_after : List Frame} {pace pace_after : Pace} (steps spent : ℕ) (top behind : Frame)
+pub begun_pays_on : {nodes part steps_after bits bits_after : ℕ} {frames frames_after : List Frame}
+    {pace pace_after : Pace} (steps spent : ℕ) (top behind : Frame)
     → bits_after ≡ bits → frames_after ≡ frame.Begin part ∷ behind ∷ frames → pace_after ≡ begun_by part pace → steps_after ≡ steps + spent
     → part < nodes → (pace.next ≤ part) ⊎ (pace.again ≡ false) → spent + weight_of behind ≤ 1 + weight_of top → weight_of behind ≤ weight_of top
     → Pays (credit_of nodes (top ∷ frames) pace bits) (credit_of nodes frames_after pace_after bits_after) steps steps_after Moved
-begun_pays_on {nodes} {steps_after = steps_after} {bits = bits} {frames = frames} {frames_after} {pace} {pace_after} steps spent top behind same frames_is pace_is steps_is within may enough lighter =
+begun_pays_on {nodes} {steps_after = steps_after} {bits = bits} {frames = frames} {frames_after} {pace} {pace_after}
+    steps spent top behind same frames_is pace_is steps_is within may enough lighter =
     let P : ℕ → Type 0 = λ b. Pays (credit_of nodes (top ∷ frames) pace bits) (credit_of nodes frames_after pace_after b) steps steps_after Moved in
     subst P (sym same) (begun_pays steps bits spent top behind frames_is pace_is steps_is within may enough lighter)
 
@@ -76,7 +82,8 @@ left_pays {frames = frames} {frames_after} {pace} {pace_after} nodes steps bits 
 pub left_pays_on : {steps_after bits_after : ℕ} {frames frames_after : List Frame} {pace pace_after : Pace} (nodes steps bits spent : ℕ) (top : Frame)
     → bits_after ≡ bits → frames_after ≡ frames → pace_after ≡ pace → steps_after ≡ steps + spent → spent ≤ weight_of top → 0 < weight_of top
     → Pays (credit_of nodes (top ∷ frames) pace bits) (credit_of nodes frames_after pace_after bits_after) steps steps_after Moved
-left_pays_on {steps_after = steps_after} {frames = frames} {frames_after} {pace} {pace_after} nodes steps bits spent top same frames_is pace_is steps_is enough some =
+left_pays_on {steps_after = steps_after} {frames = frames} {frames_after} {pace} {pace_after}
+    nodes steps bits spent top same frames_is pace_is steps_is enough some =
     let P : ℕ → Type 0 = λ b. Pays (credit_of nodes (top ∷ frames) pace bits) (credit_of nodes frames_after pace_after b) steps steps_after Moved in
     subst P (sym same) (left_pays nodes steps bits spent top frames_is pace_is steps_is enough some)
 

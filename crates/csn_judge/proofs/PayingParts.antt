@@ -55,7 +55,9 @@ module _ (d : DescV) where
           record { is_node = begun_within d (first_stack d pace known stood); rises = first_rises pace known stood }
       by (stands_lead outer i from after v others is has kept round) =
           let same : parts ≡ others = let a = has.at in cc in
-          let found = next_there has.before after i j (ap (λ n. slice_get (has.before ++ i ∷ after) n) (sym has.next_is) ∙ ap (λ l. slice_get l next) (sym has.is) ∙ ap (λ l. slice_get l next) (sym same) ∙ here) in
+          let found = next_there has.before after i j (ap (λ n. slice_get (has.before ++ i ∷ after) n)
+          (sym has.next_is) ∙ ap (λ l. slice_get l next) (sym has.is) ∙ ap (λ l. slice_get l next) (sym same)
+          ∙ here) in
           let there : stack ≡ lead_left i from (j ∷ found.0) v ∷ outer = is ∙ ap (λ l. lead_left i from l v ∷ outer) found.1 in
           let stood = subst (λ (l : List Left). IsStack d pace.next (fresh_at pace (length done)) l done) there stack_is in
           record { is_node = begun_within d (later_stack d pace known stood); rises = next_component_rises pace known stood }

@@ -1,5 +1,7 @@
 -- Pieces of a block, up to one of them and with it, and a judge that is fed one.
-use Rattle.std.proofs.Common.{◌≡◌, ℕ, zero, suc, ◌+◌, ◌*◌, ◌<◌, ◌≤◌, List, [], ◌∷◌, ◌++◌, length, take, slice_index_or, Option, Some, None, sym, ap, subst, ◌∙◌, arith, append_assoc, append-nil}
+use Rattle.std.proofs.Common.{◌≡◌, ℕ, zero, suc, ◌+◌, ◌*◌, ◌<◌, ◌≤◌, List, [], ◌∷◌, ◌++◌, length, take}
+use Rattle.std.proofs.Common.{slice_index_or, Option, Some, None, sym, ap, subst, ◌∙◌, arith, append_assoc}
+use Rattle.std.proofs.Common.{append-nil}
 use Rattle.std.specs.Prelude.{⊤}
 use Rattle.csn_desc.specs.declared.moves.Move.{Move}
 use Rattle.csn_desc.specs.Nodes.{DescV}
@@ -13,7 +15,8 @@ use Rattle.csn_judge.specs.declared.block.Piece.{Piece}
 use Rattle.csn_judge.specs.Blocks.{bits_of_piece, bits_of, bits_in, AreWithin, IsJudged}
 
 -- with the piece at a place
-pub bits_with : (ps : List Piece) (i : ℕ) (none : Piece) → i < length ps → bits_of (take (suc i) ps) ≡ bits_of (take i ps) ++ bits_of_piece (slice_index_or ps i none)
+pub bits_with : (ps : List Piece) (i : ℕ) (none : Piece)
+    → i < length ps → bits_of (take (suc i) ps) ≡ bits_of (take i ps) ++ bits_of_piece (slice_index_or ps i none)
 bits_with [] i none within = absurd (omega (arith, within))
 bits_with (p ∷ ps) zero none within = append-nil (bits_of_piece p)
 bits_with (p ∷ ps) (suc i) none within =

@@ -21,17 +21,20 @@ stopped_pays coming steps Waits same stopped = (omega (arith, same), omega (arit
 stopped_pays coming steps (Refused place) same stopped = omega arith
 
 -- a node that begins may have cost nothing
-pub next_pays : (before after steps steps_after : ℕ) (next : Next) → Pays before after steps steps_after (turn_in next) → NextPays before after steps steps_after next
+pub next_pays : (before after steps steps_after : ℕ) (next : Next)
+    → Pays before after steps steps_after (turn_in next) → NextPays before after steps steps_after next
 next_pays before after steps steps_after (next.Begin node) pays = (pays.0, omega (arith, pays.1))
 next_pays before after steps steps_after (next.Turn turn) pays = pays
 
 -- what a turn comes to: the moves, and that it is paid for
-pub record Taken (d : DescV) {S : Type 0} (takes : S → Move → Node → S → Type 0) (old new : StateV) (before after : S) (steps steps_after : ℕ) (turn : Turn) : Type 0 where
+pub record Taken (d : DescV) {S : Type 0} (takes : S → Move → Node → S → Type 0) (old new : StateV) (before after : S)
+    (steps steps_after : ℕ) (turn : Turn) : Type 0 where
   pub turns : Turns d takes old new before after turn
   pub pays : TurnPays d old new steps steps_after turn
 
 -- the same of one behind which a node may begin
-pub record TakenNext (d : DescV) {S : Type 0} (takes : S → Move → Node → S → Type 0) (old new : StateV) (before after : S) (steps steps_after : ℕ) (next : Next) : Type 0 where
+pub record TakenNext (d : DescV) {S : Type 0} (takes : S → Move → Node → S → Type 0) (old new : StateV)
+    (before after : S) (steps steps_after : ℕ) (next : Next) : Type 0 where
   pub turns : Turns d takes old new before after (turn_in next)
   pub pays : NextPays (credit_in d old) (credit_in d new) steps steps_after next
 
@@ -44,11 +47,13 @@ popped machine rest items same = record { is = popped_frame rest items same }
 
 -- it is taken away, and has its turn
 module _ {machine : Machine} {rest : List Frame} {top : Frame} (gone : Popped machine rest top) (coming : Coming) where
-  pub popped_stands : StandsSomewhere machine.plan.now (state_of machine coming) → StandsSomewhere machine.plan.now (state_at (top ∷ reverse rest) machine coming)
+  pub popped_stands : StandsSomewhere machine.plan.now (state_of machine coming)
+      → StandsSomewhere machine.plan.now (state_at (top ∷ reverse rest) machine coming)
   popped_stands h = subst (λ (l : List Frame). StandsSomewhere machine.plan.now (state_at l machine coming)) gone.is h
 
   pub popped_turn : {S : Type 0} (takes : S → Move → Node → S → Type 0) (new : StateV) (s u : S) (steps steps_after : ℕ) (turn : Turn)
-      → Turns machine.plan.now takes (state_at (top ∷ reverse rest) machine coming) new s u turn → TurnPays machine.plan.now (state_at (top ∷ reverse rest) machine coming) new steps steps_after turn
+      → Turns machine.plan.now takes (state_at (top ∷ reverse rest) machine coming) new s u turn
+      → TurnPays machine.plan.now (state_at (top ∷ reverse rest) machine coming) new steps steps_after turn
       → Taken machine.plan.now takes (state_of machine coming) new s u steps steps_after turn
   popped_turn takes new s u steps steps_after turn turns pays =
       record {
@@ -57,8 +62,14 @@ module _ {machine : Machine} {rest : List Frame} {top : Frame} (gone : Popped ma
       }
 
   pub popped_next : {S : Type 0} (takes : S → Move → Node → S → Type 0) (new : StateV) (s u : S) (steps steps_after : ℕ) (next : Next)
-      → Turns machine.plan.now takes (state_at (top ∷ reverse rest) machine coming) new s u (turn_in next) → TurnPays machine.plan.now (state_at (top ∷ reverse rest) machine coming) new steps steps_after (turn_in next)
+      → Turns machine.plan.now takes (state_at (top ∷ reverse rest) machine coming) new s u (turn_in next)
+      → TurnPays machine.plan.now (state_at (top ∷ reverse rest) machine coming) new steps steps_after
+      (turn_in next)
       → TakenNext machine.plan.now takes (state_of machine coming) new s u steps steps_after next
   popped_next takes new s u steps steps_after next turns pays =
       let t = popped_turn takes new s u steps steps_after (turn_in next) turns pays in
-      record { turns = t.turns; pays = next_pays (credit_in machine.plan.now (state_of machine coming)) (credit_in machine.plan.now new) steps steps_after next t.pays }
+      record {
+        turns = t.turns;
+        pays = next_pays (credit_in machine.plan.now (state_of machine coming))
+            (credit_in machine.plan.now new) steps steps_after next t.pays;
+      }

@@ -14,7 +14,10 @@ use Rattle.csn_desc.specs.Values.{Values}
 use Rattle.csn_desc.specs.Means.{means_choice}
 use Rattle.csn_desc.specs.Follows.{NFollow, NodeFollows, follows_whole, follows_choice}
 use Rattle.csn_desc.proofs.Nodewise.{follow_at}
-use Rattle.csn_judge.specs.Left.{Left, bits_left, symbols_left, spare_left, pad_left, rest_left, choice_left, window_left, Completes, completes_bits, completes_symbols, completes_spare, completes_pad, completes_rest, completes_window, Begins, begins_whole, begins_bits, begins_symbols, begins_spare, begins_pad, begins_choice, begins_window}
+use Rattle.csn_judge.specs.Left.{Left, bits_left, symbols_left, spare_left, pad_left, rest_left, choice_left}
+use Rattle.csn_judge.specs.Left.{window_left, Completes, completes_bits, completes_symbols, completes_spare}
+use Rattle.csn_judge.specs.Left.{completes_pad, completes_rest, completes_window, Begins, begins_whole, begins_bits}
+use Rattle.csn_judge.specs.Left.{begins_symbols, begins_spare, begins_pad, begins_choice, begins_window}
 use Rattle.csn_judge.specs.Remains.{Within, Goes, goes_end, goes_next, goes_here}
 use Rattle.csn_judge.proofs.Leaves.{spelled-append, spare_front}
 use Rattle.csn_judge.proofs.Parts.{Moving, follow_whole}
@@ -29,7 +32,9 @@ module _ (d : DescV) where
   -- ---- where no bit may be taken
 
   -- a form that needs a bit
-  pub stuck : {left : Left} {outer : List Left} {done : List ℕ} (bit : ℕ) (rest : List ℕ) → Full outer done → ((moves : List Move) → ¬ Completes d left done [] moves) → ¬ Goes d (left ∷ outer) done (bit ∷ rest)
+  pub stuck : {left : Left} {outer : List Left} {done : List ℕ} (bit : ℕ) (rest : List ℕ)
+      → Full outer done → ((moves : List Move) → ¬ Completes d left done [] moves)
+      → ¬ Goes d (left ∷ outer) done (bit ∷ rest)
   stuck {outer = outer} {done = done} bit rest full never (goes_here h within) = absurd (omega (arith, full (length done + length (bit ∷ rest)) within.1))
   stuck {left} {outer} {done} bit rest full never (goes_next b1 b2 first cut c g) =
       let none = no_bits_full d outer done b1 full (goes_within d g) in
@@ -49,7 +54,8 @@ module _ (d : DescV) where
   pad_wanted done moves (completes_pad some good leave) = let one = some refl in absurd (omega arith)
 
   -- a window that does not end here
-  pub window_stuck : {outer : List Left} {done : List ℕ} (end bit : ℕ) (rest : List ℕ) → ¬ (length done ≡ end) → ¬ Goes d (window_left end ∷ outer) done (bit ∷ rest)
+  pub window_stuck : {outer : List Left} {done : List ℕ} (end bit : ℕ) (rest : List ℕ) → ¬ (length done ≡ end)
+      → ¬ Goes d (window_left end ∷ outer) done (bit ∷ rest)
   window_stuck end bit rest not (goes_here (begins_window none place) within) = absurd (cc)
   window_stuck end bit rest not (goes_here (begins_whole moves (completes_window none place leave)) within) = absurd (cc)
   window_stuck end bit rest not (goes_next b1 b2 first cut (completes_window none place leave) g) = not place
@@ -82,7 +88,9 @@ module _ (d : DescV) where
   rest_alive done = begins_whole (Leave ∷ []) (completes_rest tt refl)
 
   -- bits that a choice follows
-  pub choice_begun : {k : ℕ} {parts : List ℕ} {v : Values} {done b : List ℕ} → Moving → slice_get d.nodes k ≡ Some (Choice parts) → NFollow d k (length done) v b → Begins d (choice_left parts v) done b
+  pub choice_begun : {k : ℕ} {parts : List ℕ} {v : Values} {done b : List ℕ}
+      → Moving → slice_get d.nodes k ≡ Some (Choice parts) → NFollow d k (length done) v b
+      → Begins d (choice_left parts v) done b
   choice_begun {parts = parts} {v} {done} {b} moving at f = by (follow_at d at f)
     where
       by : NodeFollows d (Choice parts) (length done) v b → Begins d (choice_left parts v) done b
@@ -91,11 +99,15 @@ module _ (d : DescV) where
 
   -- ---- a literal and a spare part that differ
 
-  pub symbols_follow : (run more : List Symbol) (outer : List Left) (done : List ℕ) → Within outer (length done + length (spelled run (length done))) → Goes d (symbols_left (run ++ more) ∷ outer) done (spelled run (length done))
+  pub symbols_follow : (run more : List Symbol) (outer : List Left) (done : List ℕ)
+      → Within outer (length done + length (spelled run (length done)))
+      → Goes d (symbols_left (run ++ more) ∷ outer) done (spelled run (length done))
   symbols_follow run more outer done within =
       goes_here (begins_symbols (spelled more (length done + length run)) (spelled-append run more (length done))) (tt, within)
 
-  pub symbols_differ : (run more : List Symbol) (s : Symbol) (outer : List Left) (done : List ℕ) (bit : ℕ) (rest : List ℕ) → ¬ (bit ≡ symbol_bit s (length done + length run)) → ¬ Goes d (symbols_left (run ++ s ∷ more) ∷ outer) done (spelled run (length done) ++ bit ∷ rest)
+  pub symbols_differ : (run more : List Symbol) (s : Symbol) (outer : List Left) (done : List ℕ) (bit : ℕ)
+      (rest : List ℕ) → ¬ (bit ≡ symbol_bit s (length done + length run))
+      → ¬ Goes d (symbols_left (run ++ s ∷ more) ∷ outer) done (spelled run (length done) ++ bit ∷ rest)
   symbols_differ run more s outer done bit rest not g = by g
     where
       front : List ℕ
@@ -114,9 +126,12 @@ module _ (d : DescV) where
           clash (rest ++ later) (spelled more (suc (length done + length run))) (sym (append_assoc front (bit ∷ rest) later) ∙ sym same ∙ whole)
       by (goes_here (begins_whole moves (completes_symbols same leave)) within) = clash rest (spelled more (suc (length done + length run))) (same ∙ whole)
       by (goes_next b1 b2 first cut (completes_symbols same leave) h) =
-          clash rest (spelled more (suc (length done + length run)) ++ b2) (cut ∙ ap (λ l. l ++ b2) (same ∙ whole) ∙ append_assoc front (symbol_bit s (length done + length run) ∷ spelled more (suc (length done + length run))) b2)
+          clash rest (spelled more (suc (length done + length run)) ++ b2) (cut ∙ ap (λ l. l ++ b2) (same ∙ whole)
+          ∙ append_assoc front (symbol_bit s (length done + length run) ∷ spelled more
+          (suc (length done + length run))) b2)
 
-  pub spare_differs : (s : Symbol) (outer : List Left) (done : List ℕ) (bit : ℕ) (rest : List ℕ) → ¬ IsSpare d.reading s (length done) (bit ∷ []) → ¬ Goes d (spare_left s ∷ outer) done (bit ∷ rest)
+  pub spare_differs : (s : Symbol) (outer : List Left) (done : List ℕ) (bit : ℕ) (rest : List ℕ)
+      → ¬ IsSpare d.reading s (length done) (bit ∷ []) → ¬ Goes d (spare_left s ∷ outer) done (bit ∷ rest)
   spare_differs s outer done bit rest not g = by g
     where
       by : Goes d (spare_left s ∷ outer) done (bit ∷ rest) → ⊥
@@ -128,5 +143,7 @@ module _ (d : DescV) where
           let P : ℕ → Type 0 = λ x. IsSpare d.reading s (length done) (x ∷ []) in
           not (subst P same (spare_front d.reading s (length done) (a ∷ []) b1 good))
 
-  pub pad_follows : (begun : Bool) (alike : List ℕ) (outer : List Left) (done : List ℕ) → IsSpare d.reading Low (length done) alike → Within outer (length done + length alike) → Goes d (pad_left begun ∷ outer) done alike
+  pub pad_follows : (begun : Bool) (alike : List ℕ) (outer : List Left) (done : List ℕ)
+      → IsSpare d.reading Low (length done) alike → Within outer (length done + length alike)
+      → Goes d (pad_left begun ∷ outer) done alike
   pad_follows begun alike outer done good within = goes_here (begins_pad good) (tt, within)

@@ -1,5 +1,6 @@
 -- Where no bit is ready, and what is known of what look-ahead answers.
-use Rattle.std.proofs.Common.{◌≡◌, ℕ, zero, suc, ◌-◌, ◌++◌, take, ap, ◌<◌, ◌≤◌, ◌⊎◌, inl, inr, Bool, true, false, List, [], ◌∷◌, length, min, refl, ◌∙◌, arith, Option, Some, None, subst}
+use Rattle.std.proofs.Common.{◌≡◌, ℕ, zero, suc, ◌-◌, ◌++◌, take, ap, ◌<◌, ◌≤◌, ◌⊎◌, inl, inr, Bool, true, false}
+use Rattle.std.proofs.Common.{List, [], ◌∷◌, length, min, refl, ◌∙◌, arith, Option, Some, None, subst}
 use Rattle.std.proofs.lemmas.Bool.Decides.{leb_tells}
 use Rattle.csn_desc.specs.Nodes.{DescV}
 use Rattle.csn_judge.specs.declared.frame.Frame.{Frame}
@@ -23,7 +24,15 @@ no_fewer None frames = omega arith
 -- no bit is ready, though one might be taken: none comes
 pub no_bits_ready : (coming : Coming) (most : ℕ) → 0 < most → min most (min (length coming.bits) (coming.limit - coming.place)) ≡ 0 → IsGood coming
     → ¬ ((coming.ended ≡ true) ⊎ (coming.place ≡ coming.limit)) → coming.bits ≡ []
-no_bits_ready coming most some none good unclosed = nil_from_length coming.bits (omega (arith, some, none, good.inside, away coming.place coming.limit good.inside (λ full. unclosed (inr full))))
+no_bits_ready coming most some none good unclosed =
+    nil_from_length coming.bits (omega (
+      arith,
+      some,
+      none,
+      good.inside,
+      away coming.place coming.limit good.inside
+          (λ full. unclosed (inr full)),
+    ))
   where
     away : (a b : ℕ) → a ≤ b → ¬ (a ≡ b) → a < b
     away a b less not = elim (leb_tells b a) [ inl over ↦ absurd (not (omega (arith, less, over.1))) | inr under ↦ under.1 ]
@@ -67,7 +76,8 @@ going_on true not = absurd (not refl)
 going_on false not = refl
 
 -- a node that begins is one of the description, and there is room for the frame round it
-pub begin_room : {d : DescV} {next j : ℕ} {fresh : Option ℕ} {top : Frame} {frames : List Frame} {values : List Number} {stack : List Left} {done : List ℕ} → Known d
+pub begin_room : {d : DescV} {next j : ℕ} {fresh : Option ℕ} {top : Frame} {frames : List Frame}
+    {values : List Number} {stack : List Left} {done : List ℕ} → Known d
     → Shows d (frame.Begin j ∷ top ∷ frames) values stack done → IsStack d next fresh stack done → (j < 16384) × (length frames < 63)
 begin_room {d} known (shows_begin seen kept round) is =
     (omega (arith, begun_within d is, known.description.few), omega (arith, room d is, round_length d round))
@@ -76,8 +86,10 @@ pub begin_within : {d : DescV} {next j : ℕ} {fresh : Option ℕ} {frames : Lis
     → Shows d (frame.Begin j ∷ frames) values stack done → IsStack d next fresh stack done → j < length d.nodes
 begin_within {d} (shows_begin seen kept round) is = begun_within d is
 
-pub turn_room : {d : DescV} {k i m : ℕ} {frames : List Frame} {values : List Number} {stack : List Left} {done : List ℕ} (pace : Pace) (n : ℕ) → Known d → m ≡ suc n
-    → Shows d (frame.Times k i m ∷ frames) values stack done → IsStack d pace.next (fresh_at pace (length done)) stack done → (i < length d.nodes) × (length frames < 63)
+pub turn_room : {d : DescV} {k i m : ℕ} {frames : List Frame} {values : List Number} {stack : List Left}
+    {done : List ℕ} (pace : Pace) (n : ℕ) → Known d → m ≡ suc n
+    → Shows d (frame.Times k i m ∷ frames) values stack done → IsStack d pace.next (fresh_at pace (length done))
+    stack done → (i < length d.nodes) × (length frames < 63)
 turn_room {d} {i = i} {done = done} pace n known some shows is =
     let t = turns_stand d shows in
     let stack = subst (λ (l : List Left). IsStack d pace.next (fresh_at pace (length done)) l done) (t.is ∙ ap (λ j. turns_left j i t.v ∷ t.outer) some) is in

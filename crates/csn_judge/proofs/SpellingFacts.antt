@@ -1,5 +1,6 @@
 -- The numbers that the bits of symbols write, and where bits differ from those of symbols.
-use Rattle.std.proofs.Common.{◌≡◌, ℕ, zero, suc, ◌+◌, ◌-◌, ◌*◌, ◌/◌, ◌%◌, ◌^◌, ◌<◌, ◌≤◌, List, [], ◌∷◌, ◌++◌, length, take, drop, refl, sym, ap, subst, ◌∙◌, arith, Some, slice_get}
+use Rattle.std.proofs.Common.{◌≡◌, ℕ, zero, suc, ◌+◌, ◌-◌, ◌*◌, ◌/◌, ◌%◌, ◌^◌, ◌<◌, ◌≤◌, List, [], ◌∷◌, ◌++◌, length}
+use Rattle.std.proofs.Common.{take, drop, refl, sym, ap, subst, ◌∙◌, arith, Some, slice_get}
 use Rattle.std.specs.Prelude.{replicate}
 use Rattle.std.proofs.Math.Nat.{pow-succ'}
 use Rattle.std.proofs.lemmas.List.{take_all, length-take-le, length-replicate}
@@ -90,7 +91,9 @@ repeated_bits s all n place whole few =
     let before : List ℕ = low_bits q (all / 2 ^ (63 - q)) in
     let spare : IsSpare Sent s 0 (low_bits 63 all) = whole ∙ ap (λ k. spelled (replicate k s) 0) (sym (length-low_bits 63 all)) in
     let from = spare_back Sent s 0 before (low_bits (63 - q) all) (subst (λ l. IsSpare Sent s 0 l) (low_bits-first 63 all q (omega (arith, octet))) spare) in
-    let front = spare_front Sent s (0 + length before) (low_bits n v) (low_bits (63 - q - n) all) (subst (λ l. IsSpare Sent s (0 + length before) l) (low_bits-first (63 - q) all n (omega (arith, octet, few))) from) in
+    let front = spare_front Sent s (0 + length before) (low_bits n v) (low_bits (63 - q - n) all)
+    (subst (λ l. IsSpare Sent s (0 + length before) l) (low_bits-first (63 - q) all n (omega (arith, octet, few)))
+    from) in
     ap (λ k. low_bits n (v % k)) one ∙ low_bits-mod n 0 v ∙ front
     ∙ ap (λ k. spelled (replicate k s) (0 + length before)) (length-low_bits n v)
     ∙ spelled_again n s (0 + length before) place (omega (arith, length-low_bits q (all / 2 ^ (63 - q))))
@@ -189,7 +192,8 @@ spare_mismatch s n place bits k less few same not =
       is = m.is;
       long = size ∙ m.long;
       good = ap (λ l. spelled l place) r.front ∙ ap (λ j. spelled (replicate j s) place) (sym size);
-      not = λ e. m.not (bit_of (place + length (spelled m.run place)) e ∙ ap (λ j. symbol_bit s (place + j)) size ∙ ap (λ t. symbol_bit t (place + length m.run)) (sym r.one));
+      not = λ e. m.not (bit_of (place + length (spelled m.run place)) e ∙ ap (λ j. symbol_bit s (place + j)) size ∙ ap
+          (λ t. symbol_bit t (place + length m.run)) (sym r.one));
     }
   where
     bit_of : {a : ℕ} (p : ℕ) → (a ∷ []) ≡ spelled (replicate 1 s) p → a ≡ symbol_bit s p
@@ -203,7 +207,8 @@ all_alike a n bits l less more size same =
     let e : n ≡ a = omega (arith, less, more) in
     ap (λ k. take k bits) e ∙ same ∙ take_all a l (omega (arith, size, e))
 
-pub spare_sent : (reading : Reading) (s : Symbol) (n place : ℕ) (bits : List ℕ) → reading ≡ Sent → n ≤ length bits → take n bits ≡ spelled (replicate n s) place → IsSpare reading s place (take n bits)
+pub spare_sent : (reading : Reading) (s : Symbol) (n place : ℕ) (bits : List ℕ) → reading ≡ Sent → n ≤ length bits
+    → take n bits ≡ spelled (replicate n s) place → IsSpare reading s place (take n bits)
 spare_sent reading s n place bits sent few same =
     let P : Reading → Type 0 = λ r. IsSpare r s place (take n bits) in
     subst P (sym sent) (same ∙ ap (λ k. spelled (replicate k s) place) (sym (length-take-le n bits few)))

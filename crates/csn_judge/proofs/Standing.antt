@@ -1,6 +1,8 @@
 -- What stands behind a node that is read inside others: the first of the bits there, up to the end of each window
 -- that is open, may follow the node.
-use Rattle.std.proofs.Common.{◌≡◌, ℕ, zero, suc, ◌+◌, ◌-◌, ◌^◌, ◌%◌, ◌<◌, ◌≤◌, ◌==◌, Bool, true, false, if◌then◌else◌, eqb-true, List, [], ◌∷◌, ◌++◌, length, drop, take, refl, sym, ◌∙◌, ap, subst, arith, append-nil, length-append, Option, Some, slice_get}
+use Rattle.std.proofs.Common.{◌≡◌, ℕ, zero, suc, ◌+◌, ◌-◌, ◌^◌, ◌%◌, ◌<◌, ◌≤◌, ◌==◌, Bool, true, false, if◌then◌else◌}
+use Rattle.std.proofs.Common.{eqb-true, List, [], ◌∷◌, ◌++◌, length, drop, take, refl, sym, ◌∙◌, ap, subst, arith}
+use Rattle.std.proofs.Common.{append-nil, length-append, Option, Some, slice_get}
 use Rattle.csn_bits.specs.Numbers.{number_of}
 use Rattle.csn_desc.specs.declared.moves.Move.{Move}
 use Rattle.csn_desc.specs.declared.node.Count.{Count}
@@ -10,9 +12,13 @@ use Rattle.csn_desc.specs.Values.{Values, value_of, with_value, is_named}
 use Rattle.csn_desc.specs.Formed.{value_width, width_of, IsDescription, FitWidths}
 use Rattle.csn_bits.proofs.NumberFacts.{number_of-lt}
 use Rattle.csn_look.specs.Reached.{MayStandBehind}
-use Rattle.csn_judge.specs.Left.{Left, behind, completes_none, completes_window, completes_parts, completes_turns, completes_free, completes_cut_behind, completes_lead_behind, begins_whole, begins_window, begins_parts, begins_turns, begins_free, begins_lead, begins_lead_none}
+use Rattle.csn_judge.specs.Left.{Left, behind, completes_none, completes_window, completes_parts, completes_turns}
+use Rattle.csn_judge.specs.Left.{completes_free, completes_cut_behind, completes_lead_behind, begins_whole}
+use Rattle.csn_judge.specs.Left.{begins_window, begins_parts, begins_turns, begins_free, begins_lead}
+use Rattle.csn_judge.specs.Left.{begins_lead_none}
 use Rattle.csn_judge.specs.Remains.{Within, Rest, rest_end, rest_next, Goes, goes_end, goes_next, goes_here}
-use Rattle.csn_judge.specs.Inside.{Inside, inside_none, inside_choice, inside_label, inside_window, inside_parts, inside_turns, inside_free, inside_lead, HasWidth}
+use Rattle.csn_judge.specs.Inside.{Inside, inside_none, inside_choice, inside_label, inside_window, inside_parts}
+use Rattle.csn_judge.specs.Inside.{inside_turns, inside_free, inside_lead, HasWidth}
 use Rattle.csn_judge.specs.Known.{Known}
 
 -- ---- first bits
@@ -35,7 +41,9 @@ module _ (d : DescV) where
   room_behind m done b1 = omega (arith, length-append done b1)
 
   -- what may stand behind two pieces together may stand behind their first few
-  pub first_few : (i o m : ℕ) (done b1 b2 : List ℕ) {b : List ℕ} → b ≡ b1 ++ b2 → MayStandBehind d i o (b1 ++ take (m - length (done ++ b1)) b2) → MayStandBehind d i o (take (m - length done) b)
+  pub first_few : (i o m : ℕ) (done b1 b2 : List ℕ) {b : List ℕ}
+      → b ≡ b1 ++ b2 → MayStandBehind d i o (b1 ++ take (m - length (done ++ b1)) b2)
+      → MayStandBehind d i o (take (m - length done) b)
   first_few i o m done b1 b2 cut h bit rest e =
       let first = first_of b1 b2 (m - length done) bit rest (ap (λ l. take (m - length done) l) (sym cut) ∙ e) in
       h bit first.rest (ap (λ k. b1 ++ take k b2) (room_behind m done b1) ∙ first.is)
@@ -88,7 +96,9 @@ module _ (d : DescV) where
           let P : ℕ → Type 0 = λ w. number_of b < 2 ^ w in
           subst P known.0 (number_of-lt b known.1)
 
-      first : (field value wide : ℕ) (same : Bool) → (i == field) ≡ same → (if same then Some (number_of b) else value_of v field) ≡ Some value → value_width d.nodes field ≡ Some wide → value < 2 ^ wide
+      first : (field value wide : ℕ) (same : Bool)
+          → (i == field) ≡ same → (if same then Some (number_of b) else value_of v field) ≡ Some value
+          → value_width d.nodes field ≡ Some wide → value < 2 ^ wide
       first field value wide true same at is =
           let here : number_of b ≡ value = cc in
           let field_is : i ≡ field = eqb-true i field same in
@@ -96,7 +106,9 @@ module _ (d : DescV) where
           rw (← here) bound
       first field value wide false same at is = fits.fit field value wide at is
 
-      behind_it : (field value wide : ℕ) (labelled : Bool) → value_of (if labelled then (i, b) ∷ v else v) field ≡ Some value → value_width d.nodes field ≡ Some wide → value < 2 ^ wide
+      behind_it : (field value wide : ℕ) (labelled : Bool)
+          → value_of (if labelled then (i, b) ∷ v else v) field ≡ Some value → value_width d.nodes field ≡ Some wide
+          → value < 2 ^ wide
       behind_it field value wide true at is = first field value wide (i == field) refl at is
       behind_it field value wide false at is = fits.fit field value wide at is
 
@@ -111,7 +123,9 @@ module _ (d : DescV) (is : IsDescription d) (laws : Known d) where
   no_room : (m n : ℕ) → m ≤ n → (b : List ℕ) → take (m - n) b ≡ []
   no_room m n less b = let same : m - n ≡ 0 = omega (arith, less) in ap (λ k. take k b) same
 
-  outer_on : (i m : ℕ) (done b1 b2 : List ℕ) {b : List ℕ} → b ≡ b1 ++ b2 → b1 ≡ [] → MayStandBehind d i (length (done ++ b1) % 8) (take (m - length (done ++ b1)) b2) → MayStandBehind d i (length done % 8) (take (m - length done) b)
+  outer_on : (i m : ℕ) (done b1 b2 : List ℕ) {b : List ℕ}
+      → b ≡ b1 ++ b2 → b1 ≡ [] → MayStandBehind d i (length (done ++ b1) % 8) (take (m - length (done ++ b1)) b2)
+      → MayStandBehind d i (length done % 8) (take (m - length done) b)
   outer_on i m done b1 b2 {b} cut none h =
       let size : length (done ++ b1) ≡ length done = ap (λ l. length (done ++ l)) none ∙ ap length (append-nil done) in
       let same : b2 ≡ b = ap (λ l. l ++ b2) (sym none) ∙ sym cut in
@@ -127,99 +141,156 @@ module _ (d : DescV) (is : IsDescription d) (laws : Known d) where
 
   module _ (m : ℕ) where
     -- of bits that end what is open
-    pub rest_stands : {fresh : Option ℕ} {stack : List Left} {i from : ℕ} {v : Values} {done b : List ℕ} {moves : List Move} → Inside d fresh stack i from v → HasWidth d i (drop from done) → Within stack m → Rest d stack done b moves → MayStandBehind d i (length done % 8) (take (m - length done) b)
+    pub rest_stands : {fresh : Option ℕ} {stack : List Left} {i from : ℕ} {v : Values} {done b : List ℕ}
+        {moves : List Move} → Inside d fresh stack i from v → HasWidth d i (drop from done)
+        → Within stack m → Rest d stack done b moves → MayStandBehind d i (length done % 8) (take (m - length done) b)
     rest_stands {i = i} {done = done} (inside_none stale root start sees) width within (rest_end none stays) =
         few_of d i (length done % 8) (m - length done) _ (no_stand i (length done % 8) _ none)
-    rest_stands {i = i} {done = done} (inside_choice k j parts at here ready inner) width within (rest_next b1 b2 first others cut made (completes_none none leave) o) =
+    rest_stands {i = i} {done = done} (inside_choice k j parts at here ready inner) width within
+        (rest_next b1 b2 first others cut made (completes_none none leave) o) =
         let outer = laws.alternative d k j i (length (done ++ b1) % 8) parts _ at here (rest_stands inner (choice_width d at) within.1 o) in
         outer_on i m done b1 b2 cut none outer
-    rest_stands {i = i} {from} {done = done} (inside_label {label = label} k at ready inner) width within (rest_next b1 b2 first others cut made (completes_none none leave) o) =
+    rest_stands {i = i} {from} {done = done} (inside_label {label = label} k at ready inner) width within
+        (rest_next b1 b2 first others cut made (completes_none none leave) o) =
         let same : drop from done ≡ drop from (done ++ b1) = ap (λ l. drop from l) (sym (append-nil done) ∙ ap (λ l. done ++ l) (sym none)) in
         let outer = laws.label d k i (length (done ++ b1) % 8) label _ at (rest_stands inner (label_width d at (width_along d same width)) within.1 o) in
         outer_on i m done b1 b2 cut none outer
-    rest_stands {i = i} {done = done} (inside_window {end = end} k n at counts ends ready inner) width within (rest_next b1 b2 first others cut made (completes_window none place leave) o) =
+    rest_stands {i = i} {done = done} (inside_window {end = end} k n at counts ends ready inner) width within
+        (rest_next b1 b2 first others cut made (completes_window none place leave) o) =
         window_behind i m end done _ place within.0
-    rest_stands {i = i} {from} {done = done} (inside_parts {after = after} {v = v} k start v0 parts before at split so_far order empty fits formed ready inner) width within (rest_next b1 b2 first others cut made (completes_parts ts h ws leave) o) =
+    rest_stands {i = i} {from} {done = done} (inside_parts {after = after} {v = v} k start v0 parts before at split
+        so_far order empty fits formed ready inner) width within
+        (rest_next b1 b2 first others cut made (completes_parts ts h ws leave) o) =
         let outer = rest_stands inner (sequence_width d at) within.1 o in
         let place : length (done ++ b1) % 8 ≡ (length done + length b1) % 8 = ap (λ k. k % 8) (length-append done b1) in
-        first_few d i (length done % 8) m done b1 b2 cut (laws.sequence d k i (length done) parts before after (behind d i from v done) b1 _ ts is at split (fits_behind d i (drop from done) v width fits) h (stands_at d _ _ _ place outer))
-    rest_stands {i = i} {done = done} (inside_turns {count = count} {v = v} k start at turn order empty ready was turns inner) width within (rest_next b1 b2 first others cut made (completes_turns ts h ws leave) o) =
+        first_few d i (length done % 8) m done b1 b2 cut (laws.sequence d k i (length done) parts before after
+        (behind d i from v done) b1 _ ts is at split (fits_behind d i (drop from done) v width fits) h
+        (stands_at d _ _ _ place outer))
+    rest_stands {i = i} {done = done} (inside_turns {count = count} {v = v} k start at turn order empty ready was
+        turns inner) width within (rest_next b1 b2 first others cut made (completes_turns ts h ws leave) o) =
         let outer = rest_stands inner (times_width d at) within.1 o in
         let place : length (done ++ b1) % 8 ≡ (length done + length b1) % 8 = ap (λ k. k % 8) (length-append done b1) in
-        first_few d i (length done % 8) m done b1 b2 cut (laws.turns d k i (length done) _ count v b1 _ ts is at ready.widths h (stands_at d _ _ _ place outer))
-    rest_stands {i = i} {done = done} (inside_free {v = v} k start at so_far order ready was turns inner) width within (rest_next b1 b2 first others cut made (completes_free ts h ws leave) o) =
+        first_few d i (length done % 8) m done b1 b2 cut
+        (laws.turns d k i (length done) _ count v b1 _ ts is at ready.widths h (stands_at d _ _ _ place outer))
+    rest_stands {i = i} {done = done} (inside_free {v = v} k start at so_far order ready was turns inner) width within
+        (rest_next b1 b2 first others cut made (completes_free ts h ws leave) o) =
         let outer = rest_stands inner (many_width d at) within.1 o in
         let place : length (done ++ b1) % 8 ≡ (length done + length b1) % 8 = ap (λ k. k % 8) (length-append done b1) in
         first_few d i (length done % 8) m done b1 b2 cut (laws.free d k i (length done) v b1 _ ts is at ready.widths h (stands_at d _ _ _ place outer))
-    rest_stands {i = i} {from} {done = done} (inside_lead {after = after} {v = v} k start v0 parts before at split so_far order fits formed ready inner) width within (rest_next b1 b2 first others cut made (completes_lead_behind ts h ws leave) o) =
+    rest_stands {i = i} {from} {done = done}
+        (inside_lead {after = after} {v = v} k start v0 parts before at split so_far order fits formed ready inner)
+        width within (rest_next b1 b2 first others cut made (completes_lead_behind ts h ws leave) o) =
         let outer = rest_stands inner (truncation_width d at) within.1 o in
         let place : length (done ++ b1) % 8 ≡ (length done + length b1) % 8 = ap (λ k. k % 8) (length-append done b1) in
-        first_few d i (length done % 8) m done b1 b2 cut (laws.truncation d k i (length done) parts before after (behind d i from v done) b1 _ ts is at split (fits_behind d i (drop from done) v width fits) h (stands_at d _ _ _ place outer))
-    rest_stands {i = i} {from} {done = done} (inside_lead {after = after} {v = v} k start v0 parts before at split so_far order fits formed ready inner) width within (rest_next b1 b2 first others cut made (completes_cut_behind some none leave) o) =
+        first_few d i (length done % 8) m done b1 b2 cut (laws.truncation d k i (length done) parts before after
+        (behind d i from v done) b1 _ ts is at split (fits_behind d i (drop from done) v width fits) h
+        (stands_at d _ _ _ place outer))
+    rest_stands {i = i} {from} {done = done}
+        (inside_lead {after = after} {v = v} k start v0 parts before at split so_far order fits formed ready inner)
+        width within (rest_next b1 b2 first others cut made (completes_cut_behind some none leave) o) =
         let outer = rest_stands inner (truncation_width d at) within.1 o in
         outer_on i m done b1 b2 cut none (laws.truncation_last d k i (length (done ++ b1) % 8) parts before after _ at split outer)
 
     -- of bits that can be followed
-    pub goes_stands : {fresh : Option ℕ} {stack : List Left} {i from : ℕ} {v : Values} {done b : List ℕ} → Inside d fresh stack i from v → HasWidth d i (drop from done) → Within stack m → Goes d stack done b → MayStandBehind d i (length done % 8) (take (m - length done) b)
+    pub goes_stands : {fresh : Option ℕ} {stack : List Left} {i from : ℕ} {v : Values} {done b : List ℕ}
+        → Inside d fresh stack i from v → HasWidth d i (drop from done) → Within stack m → Goes d stack done b
+        → MayStandBehind d i (length done % 8) (take (m - length done) b)
     goes_stands {i = i} {done = done} (inside_none stale root start sees) width within (goes_end none) =
         few_of d i (length done % 8) (m - length done) _ (no_stand i (length done % 8) _ none)
     goes_stands {i = i} {done = done} (inside_choice k j parts at here ready inner) width within (goes_next b1 b2 first cut (completes_none none leave) o) =
         let outer = laws.alternative d k j i (length (done ++ b1) % 8) parts _ at here (goes_stands inner (choice_width d at) within.1 o) in
         outer_on i m done b1 b2 cut none outer
-    goes_stands {i = i} {done = done} (inside_choice k j parts at here ready inner) width within (goes_here (begins_whole moves (completes_none none leave)) room) =
+    goes_stands {i = i} {done = done} (inside_choice k j parts at here ready inner) width within
+        (goes_here (begins_whole moves (completes_none none leave)) room) =
         few_of d i (length done % 8) (m - length done) _ (no_stand i (length done % 8) _ none)
-    goes_stands {i = i} {from} {done = done} (inside_label {label = label} k at ready inner) width within (goes_next b1 b2 first cut (completes_none none leave) o) =
+    goes_stands {i = i} {from} {done = done} (inside_label {label = label} k at ready inner) width within
+        (goes_next b1 b2 first cut (completes_none none leave) o) =
         let same : drop from done ≡ drop from (done ++ b1) = ap (λ l. drop from l) (sym (append-nil done) ∙ ap (λ l. done ++ l) (sym none)) in
         let outer = laws.label d k i (length (done ++ b1) % 8) label _ at (goes_stands inner (label_width d at (width_along d same width)) within.1 o) in
         outer_on i m done b1 b2 cut none outer
     goes_stands {i = i} {done = done} (inside_label k at ready inner) width within (goes_here (begins_whole moves (completes_none none leave)) room) =
         few_of d i (length done % 8) (m - length done) _ (no_stand i (length done % 8) _ none)
-    goes_stands {i = i} {done = done} (inside_window {end = end} k n at counts ends ready inner) width within (goes_next b1 b2 first cut (completes_window none place leave) o) =
+    goes_stands {i = i} {done = done} (inside_window {end = end} k n at counts ends ready inner) width within
+        (goes_next b1 b2 first cut (completes_window none place leave) o) =
         window_behind i m end done _ place within.0
     goes_stands {i = i} {done = done} (inside_window {end = end} k n at counts ends ready inner) width within (goes_here (begins_window none place) room) =
         few_of d i (length done % 8) (m - length done) _ (no_stand i (length done % 8) _ none)
-    goes_stands {i = i} {done = done} (inside_window {end = end} k n at counts ends ready inner) width within (goes_here (begins_whole moves (completes_window none place leave)) room) =
+    goes_stands {i = i} {done = done} (inside_window {end = end} k n at counts ends ready inner) width within
+        (goes_here (begins_whole moves (completes_window none place leave)) room) =
         few_of d i (length done % 8) (m - length done) _ (no_stand i (length done % 8) _ none)
-    goes_stands {i = i} {from} {done = done} (inside_parts {after = after} {v = v} k start v0 parts before at split so_far order empty fits formed ready inner) width within (goes_next b1 b2 first cut (completes_parts ts h ws leave) o) =
+    goes_stands {i = i} {from} {done = done} (inside_parts {after = after} {v = v} k start v0 parts before at split
+        so_far order empty fits formed ready inner) width within
+        (goes_next b1 b2 first cut (completes_parts ts h ws leave) o) =
         let outer = goes_stands inner (sequence_width d at) within.1 o in
         let place : length (done ++ b1) % 8 ≡ (length done + length b1) % 8 = ap (λ k. k % 8) (length-append done b1) in
-        first_few d i (length done % 8) m done b1 b2 cut (laws.sequence d k i (length done) parts before after (behind d i from v done) b1 _ ts is at split (fits_behind d i (drop from done) v width fits) h (stands_at d _ _ _ place outer))
-    goes_stands {i = i} {from} {done = done} (inside_parts {after = after} {v = v} k start v0 parts before at split so_far order empty fits formed ready inner) width within (goes_here (begins_parts f) room) =
-        few_of d i (length done % 8) (m - length done) _ (laws.sequence_followed d k i (length done) parts before after (behind d i from v done) _ is at split (fits_behind d i (drop from done) v width fits) f)
-    goes_stands {i = i} {from} {done = done} {b = b} (inside_parts {after = after} {v = v} k start v0 parts before at split so_far order empty fits formed ready inner) width within (goes_here (begins_whole moves (completes_parts ts h ws leave)) room) =
+        first_few d i (length done % 8) m done b1 b2 cut (laws.sequence d k i (length done) parts before after
+        (behind d i from v done) b1 _ ts is at split (fits_behind d i (drop from done) v width fits) h
+        (stands_at d _ _ _ place outer))
+    goes_stands {i = i} {from} {done = done} (inside_parts {after = after} {v = v} k start v0 parts before at split
+        so_far order empty fits formed ready inner) width within (goes_here (begins_parts f) room) =
+        few_of d i (length done % 8) (m - length done) _ (laws.sequence_followed d k i (length done)
+        parts before after (behind d i from v done) _ is at split (fits_behind d i (drop from done) v width fits)
+        f)
+    goes_stands {i = i} {from} {done = done} {b = b}
+        (inside_parts {after = after} {v = v} k start v0 parts before at split so_far order empty fits formed ready
+        inner) width within (goes_here (begins_whole moves (completes_parts ts h ws leave)) room) =
         let outer = no_stand k ((length done + length b) % 8) [] refl in
-        few_of d i (length done % 8) (m - length done) b (alone i b (laws.sequence d k i (length done) parts before after (behind d i from v done) b [] ts is at split (fits_behind d i (drop from done) v width fits) h outer))
-    goes_stands {i = i} {done = done} (inside_turns {count = count} {v = v} k start at turn order empty ready was turns inner) width within (goes_next b1 b2 first cut (completes_turns ts h ws leave) o) =
+        few_of d i (length done % 8) (m - length done) b
+        (alone i b (laws.sequence d k i (length done) parts before after (behind d i from v done)
+        b [] ts is at split (fits_behind d i (drop from done) v width fits) h outer))
+    goes_stands {i = i} {done = done} (inside_turns {count = count} {v = v} k start at turn order empty ready was
+        turns inner) width within (goes_next b1 b2 first cut (completes_turns ts h ws leave) o) =
         let outer = goes_stands inner (times_width d at) within.1 o in
         let place : length (done ++ b1) % 8 ≡ (length done + length b1) % 8 = ap (λ k. k % 8) (length-append done b1) in
-        first_few d i (length done % 8) m done b1 b2 cut (laws.turns d k i (length done) _ count v b1 _ ts is at ready.widths h (stands_at d _ _ _ place outer))
-    goes_stands {i = i} {done = done} (inside_turns {count = count} {v = v} k start at turn order empty ready was turns inner) width within (goes_here (begins_turns f) room) =
+        first_few d i (length done % 8) m done b1 b2 cut
+        (laws.turns d k i (length done) _ count v b1 _ ts is at ready.widths h (stands_at d _ _ _ place outer))
+    goes_stands {i = i} {done = done} (inside_turns {count = count} {v = v} k start at turn order empty ready was
+        turns inner) width within (goes_here (begins_turns f) room) =
         few_of d i (length done % 8) (m - length done) _ (laws.turns_followed d k i (length done) _ count v _ is at ready.widths f)
-    goes_stands {i = i} {done = done} {b = b} (inside_turns {count = count} {v = v} k start at turn order empty ready was turns inner) width within (goes_here (begins_whole moves (completes_turns ts h ws leave)) room) =
+    goes_stands {i = i} {done = done} {b = b} (inside_turns {count = count} {v = v} k start at turn order empty ready
+        was turns inner) width within (goes_here (begins_whole moves (completes_turns ts h ws leave)) room) =
         let outer = no_stand k ((length done + length b) % 8) [] refl in
         few_of d i (length done % 8) (m - length done) b (alone i b (laws.turns d k i (length done) _ count v b [] ts is at ready.widths h outer))
-    goes_stands {i = i} {done = done} (inside_free {v = v} k start at so_far order ready was turns inner) width within (goes_next b1 b2 first cut (completes_free ts h ws leave) o) =
+    goes_stands {i = i} {done = done} (inside_free {v = v} k start at so_far order ready was turns inner) width within
+        (goes_next b1 b2 first cut (completes_free ts h ws leave) o) =
         let outer = goes_stands inner (many_width d at) within.1 o in
         let place : length (done ++ b1) % 8 ≡ (length done + length b1) % 8 = ap (λ k. k % 8) (length-append done b1) in
         first_few d i (length done % 8) m done b1 b2 cut (laws.free d k i (length done) v b1 _ ts is at ready.widths h (stands_at d _ _ _ place outer))
     goes_stands {i = i} {done = done} (inside_free {v = v} k start at so_far order ready was turns inner) width within (goes_here (begins_free f) room) =
         few_of d i (length done % 8) (m - length done) _ (laws.free_followed d k i (length done) v _ is at ready.widths f)
-    goes_stands {i = i} {done = done} {b = b} (inside_free {v = v} k start at so_far order ready was turns inner) width within (goes_here (begins_whole moves (completes_free ts h ws leave)) room) =
+    goes_stands {i = i} {done = done} {b = b} (inside_free {v = v} k start at so_far order ready was turns inner)
+        width within (goes_here (begins_whole moves (completes_free ts h ws leave)) room) =
         let outer = no_stand k ((length done + length b) % 8) [] refl in
         few_of d i (length done % 8) (m - length done) b (alone i b (laws.free d k i (length done) v b [] ts is at ready.widths h outer))
-    goes_stands {i = i} {from} {done = done} (inside_lead {after = after} {v = v} k start v0 parts before at split so_far order fits formed ready inner) width within (goes_next b1 b2 first cut (completes_lead_behind ts h ws leave) o) =
+    goes_stands {i = i} {from} {done = done}
+        (inside_lead {after = after} {v = v} k start v0 parts before at split so_far order fits formed ready inner)
+        width within (goes_next b1 b2 first cut (completes_lead_behind ts h ws leave) o) =
         let outer = goes_stands inner (truncation_width d at) within.1 o in
         let place : length (done ++ b1) % 8 ≡ (length done + length b1) % 8 = ap (λ k. k % 8) (length-append done b1) in
-        first_few d i (length done % 8) m done b1 b2 cut (laws.truncation d k i (length done) parts before after (behind d i from v done) b1 _ ts is at split (fits_behind d i (drop from done) v width fits) h (stands_at d _ _ _ place outer))
-    goes_stands {i = i} {from} {done = done} (inside_lead {after = after} {v = v} k start v0 parts before at split so_far order fits formed ready inner) width within (goes_next b1 b2 first cut (completes_cut_behind some none leave) o) =
+        first_few d i (length done % 8) m done b1 b2 cut (laws.truncation d k i (length done) parts before after
+        (behind d i from v done) b1 _ ts is at split (fits_behind d i (drop from done) v width fits) h
+        (stands_at d _ _ _ place outer))
+    goes_stands {i = i} {from} {done = done}
+        (inside_lead {after = after} {v = v} k start v0 parts before at split so_far order fits formed ready inner)
+        width within (goes_next b1 b2 first cut (completes_cut_behind some none leave) o) =
         let outer = goes_stands inner (truncation_width d at) within.1 o in
         outer_on i m done b1 b2 cut none (laws.truncation_last d k i (length (done ++ b1) % 8) parts before after _ at split outer)
-    goes_stands {i = i} {from} {done = done} (inside_lead {after = after} {v = v} k start v0 parts before at split so_far order fits formed ready inner) width within (goes_here (begins_lead f) room) =
-        few_of d i (length done % 8) (m - length done) _ (laws.truncation_followed d k i (length done) parts before after (behind d i from v done) _ is at split (fits_behind d i (drop from done) v width fits) f)
-    goes_stands {i = i} {done = done} (inside_lead k start v0 parts before at split so_far order fits formed ready inner) width within (goes_here (begins_lead_none none) room) =
+    goes_stands {i = i} {from} {done = done}
+        (inside_lead {after = after} {v = v} k start v0 parts before at split so_far order fits formed ready inner)
+        width within (goes_here (begins_lead f) room) =
+        few_of d i (length done % 8) (m - length done) _ (laws.truncation_followed d k i (length done)
+        parts before after (behind d i from v done) _ is at split (fits_behind d i (drop from done) v width fits)
+        f)
+    goes_stands {i = i} {done = done} (inside_lead k start v0 parts before at split so_far order fits formed ready
+        inner) width within (goes_here (begins_lead_none none) room) =
         few_of d i (length done % 8) (m - length done) _ (no_stand i (length done % 8) _ none)
-    goes_stands {i = i} {from} {done = done} {b = b} (inside_lead {after = after} {v = v} k start v0 parts before at split so_far order fits formed ready inner) width within (goes_here (begins_whole moves (completes_lead_behind ts h ws leave)) room) =
+    goes_stands {i = i} {from} {done = done} {b = b}
+        (inside_lead {after = after} {v = v} k start v0 parts before at split so_far order fits formed ready inner)
+        width within (goes_here (begins_whole moves (completes_lead_behind ts h ws leave)) room) =
         let outer = no_stand k ((length done + length b) % 8) [] refl in
-        few_of d i (length done % 8) (m - length done) b (alone i b (laws.truncation d k i (length done) parts before after (behind d i from v done) b [] ts is at split (fits_behind d i (drop from done) v width fits) h outer))
-    goes_stands {i = i} {done = done} (inside_lead k start v0 parts before at split so_far order fits formed ready inner) width within (goes_here (begins_whole moves (completes_cut_behind some none leave)) room) =
+        few_of d i (length done % 8) (m - length done) b
+        (alone i b (laws.truncation d k i (length done) parts before after (behind d i from v done)
+        b [] ts is at split (fits_behind d i (drop from done) v width fits) h outer))
+    goes_stands {i = i} {done = done} (inside_lead k start v0 parts before at split so_far order fits formed ready
+        inner) width within (goes_here (begins_whole moves (completes_cut_behind some none leave)) room) =
         few_of d i (length done % 8) (m - length done) _ (no_stand i (length done % 8) _ none)

@@ -43,7 +43,9 @@ module _ (d : DescV) where
       append_assoc done taken (ahead ++ later) ∙ ap (λ l. done ++ l) (sym (append_assoc taken ahead later))
 
   -- what stood for a block before a step stands for it after the step
-  pub stands_after : {old new : List Left} {done ahead : List ℕ} {made more : List Move} (taken : List ℕ) → StandsFor d old done (taken ++ ahead) made → Steps d old new done taken ahead more → StandsFor d new (done ++ taken) ahead (made ++ more)
+  pub stands_after : {old new : List Left} {done ahead : List ℕ} {made more : List Move} (taken : List ℕ)
+      → StandsFor d old done (taken ++ ahead) made → Steps d old new done taken ahead more
+      → StandsFor d new (done ++ taken) ahead (made ++ more)
   stands_after {done = done} {ahead = ahead} {made = made} {more = more} taken stands step =
       record {
         ends = λ later moves block.
@@ -52,7 +54,8 @@ module _ (d : DescV) where
             (after.0, before.1 ∙ ap (λ l. made ++ l) after.1 ∙ sym (append_assoc made more after.0), after.2);
         ended = λ later rest h.
             let before = step.ended later rest h in
-            block_along (sym (regrouped done taken ahead later)) (sym (append_assoc made more rest)) (stands.ended later (more ++ rest) (rest_along (sym (append_assoc taken ahead later)) before));
+            block_along (sym (regrouped done taken ahead later)) (sym (append_assoc made more rest))
+            (stands.ended later (more ++ rest) (rest_along (sym (append_assoc taken ahead later)) before));
         goes = λ b agrees f. step.goes b agrees (stands.goes (taken ++ b) (agrees_behind taken agrees) (followed_along (append_assoc done taken b) f));
         went = λ b agrees g. followed_along (sym (append_assoc done taken b)) (stands.went (taken ++ b) (agrees_behind taken agrees) (step.went b agrees g));
       }
@@ -64,13 +67,17 @@ module _ (d : DescV) where
   steps_then {done = done} {ahead = ahead} {made = made} {more = more} taken also first second =
       record {
         ends = λ later rest e h.
-            let middle = first.ends later rest e (rest_along (append_assoc taken also (ahead ++ later) ∙ ap (λ l. taken ++ l) (sym (append_assoc also ahead later))) h) in
+            let middle = first.ends later rest e
+            (rest_along (append_assoc taken also (ahead ++ later)
+            ∙ ap (λ l. taken ++ l) (sym (append_assoc also ahead later))) h) in
             let after = second.ends later middle.0 e (rest_along (append_assoc also ahead later) middle.2) in
             (after.0, middle.1 ∙ ap (λ l. made ++ l) after.1 ∙ sym (append_assoc made more after.0), rest_from (append_assoc done taken also) after.2);
         ended_by = λ later rest e h.
             let middle = second.ended_by later rest e (rest_from (sym (append_assoc done taken also)) h) in
             let before = first.ended_by later (more ++ rest) e (rest_along (sym (append_assoc also ahead later)) middle) in
-            rest_by (sym (append_assoc made more rest)) (rest_along (ap (λ l. taken ++ l) (append_assoc also ahead later) ∙ sym (append_assoc taken also (ahead ++ later))) before);
+            rest_by (sym (append_assoc made more rest))
+            (rest_along (ap (λ l. taken ++ l) (append_assoc also ahead later)
+            ∙ sym (append_assoc taken also (ahead ++ later))) before);
         goes = λ b going agrees g.
             let middle = first.goes (also ++ b) going (agrees_behind also agrees) (goes_along (append_assoc taken also b) g) in
             goes_from (append_assoc done taken also) (second.goes b going agrees middle);
@@ -115,7 +122,8 @@ module _ (d : DescV) where
 
   -- behind `done`, what is left becomes another form by taking these bits and making these moves
   pub record Replaces (old new : Left) (done taken : List ℕ) (made : List Move) : Type 0 where
-    pub completes : (b : List ℕ) (moves : List Move) → Completes d old done (taken ++ b) moves → (more : List Move) × (moves ≡ made ++ more) × Completes d new (done ++ taken) b more
+    pub completes : (b : List ℕ) (moves : List Move) → Completes d old done (taken ++ b) moves → (more : List Move)
+        × (moves ≡ made ++ more) × Completes d new (done ++ taken) b more
     pub completed : (b : List ℕ) (more : List Move) → Completes d new (done ++ taken) b more → Completes d old done (taken ++ b) (made ++ more)
     pub begins : (b : List ℕ) → Begins d old done (taken ++ b) → Begins d new (done ++ taken) b
     pub begun : (b : List ℕ) → Begins d new (done ++ taken) b → Begins d old done (taken ++ b)
@@ -131,7 +139,8 @@ module _ (d : DescV) where
     pub up_old : (place : ℕ) → IsUpTo old place
     pub up_new : (place : ℕ) → IsUpTo new place
 
-  pub completes_from : {left : Left} {done other b : List ℕ} {moves : List Move} → done ≡ other → Completes d left done b moves → Completes d left other b moves
+  pub completes_from : {left : Left} {done other b : List ℕ} {moves : List Move}
+      → done ≡ other → Completes d left done b moves → Completes d left other b moves
   completes_from {left} {b = b} {moves = moves} e h = let P : List ℕ → Type 0 = λ l. Completes d left l b moves in subst P e h
 
   pub begins_from : {left : Left} {done other b : List ℕ} → done ≡ other → Begins d left done b → Begins d left other b
@@ -150,11 +159,15 @@ module _ (d : DescV) where
 
   -- what is left is not completed before these bits are taken
   pub record NotBefore (left : Left) (outer : List Left) (done taken : List ℕ) : Type 0 where
-    pub rest : (x b1 b2 : List ℕ) (first others : List Move) → taken ++ x ≡ b1 ++ b2 → Completes d left done b1 first → Rest d outer (done ++ b1) b2 others → length taken ≤ length b1
-    pub goes : (x b1 b2 : List ℕ) (first : List Move) → taken ++ x ≡ b1 ++ b2 → Completes d left done b1 first → Goes d outer (done ++ b1) b2 → length taken ≤ length b1
+    pub rest : (x b1 b2 : List ℕ) (first others : List Move) → taken ++ x ≡ b1 ++ b2 → Completes d left done b1 first
+        → Rest d outer (done ++ b1) b2 others → length taken ≤ length b1
+    pub goes : (x b1 b2 : List ℕ) (first : List Move) → taken ++ x ≡ b1 ++ b2 → Completes d left done b1 first
+        → Goes d outer (done ++ b1) b2 → length taken ≤ length b1
 
   -- since all bits that complete it are as many
-  pub as_many : {left : Left} {outer : List Left} {done taken : List ℕ} → ((b : List ℕ) (moves : List Move) → Completes d left done b moves → length taken ≤ length b) → NotBefore left outer done taken
+  pub as_many : {left : Left} {outer : List Left} {done taken : List ℕ}
+      → ((b : List ℕ) (moves : List Move) → Completes d left done b moves → length taken ≤ length b)
+      → NotBefore left outer done taken
   as_many long = record { rest = λ x b1 b2 first others e h o. long b1 first h; goes = λ x b1 b2 first e h o. long b1 first h }
 
   -- no bits are taken
@@ -173,10 +186,17 @@ module _ (d : DescV) where
         | behind m p q ↦ record { more = m; is = p; others = q }
         | inside m p q ↦
             let none = nil_from_length m (omega (arith, ap length p, length-append b1 m, long)) in
-            record { more = []; is = sym (append-nil b1) ∙ ap (λ l. b1 ++ l) (sym none) ∙ sym p ∙ sym (append-nil taken); others = ap (λ l. l ++ x) (sym none) ∙ sym q }
+            record {
+              more = [];
+              is = sym (append-nil b1) ∙ ap (λ l. b1 ++ l) (sym none)
+                  ∙ sym p ∙ sym (append-nil taken);
+              others = ap (λ l. l ++ x) (sym none) ∙ sym q;
+            }
       ]
 
-  pub replaced : {old new : Left} {outer : List Left} {done taken : List ℕ} {made : List Move} (ahead : List ℕ) → NotBefore old outer done taken → Replaces old new done taken made → Steps d (old ∷ outer) (new ∷ outer) done taken ahead made
+  pub replaced : {old new : Left} {outer : List Left} {done taken : List ℕ} {made : List Move} (ahead : List ℕ)
+      → NotBefore old outer done taken → Replaces old new done taken made → Steps d (old ∷ outer) (new ∷ outer)
+      done taken ahead made
   replaced {old} {new} {outer} {done} {taken} {made} ahead least r =
       record {
         ends = λ later rest h. on (ahead ++ later) rest h;
@@ -185,7 +205,8 @@ module _ (d : DescV) where
         went = λ b agrees g. home b g;
       }
     where
-      on : (x : List ℕ) (rest : List Move) → Rest d (old ∷ outer) done (taken ++ x) rest → (more : List Move) × (rest ≡ made ++ more) × Rest d (new ∷ outer) (done ++ taken) x more
+      on : (x : List ℕ) (rest : List Move) → Rest d (old ∷ outer) done (taken ++ x) rest → (more : List Move)
+          × (rest ≡ made ++ more) × Rest d (new ∷ outer) (done ++ taken) x more
       on x rest (rest_next b1 b2 first others cut is h o) =
           let pieces = cut_at taken x b1 b2 cut (least.rest x b1 b2 first others cut h o) in
           let made_of = r.completes pieces.more first (completes_along pieces.is h) in
@@ -197,7 +218,10 @@ module _ (d : DescV) where
 
       back : (x : List ℕ) (more : List Move) → Rest d (new ∷ outer) (done ++ taken) x more → Rest d (old ∷ outer) done (taken ++ x) (made ++ more)
       back x more (rest_next b1 b2 first others cut is h o) =
-          rest_next (taken ++ b1) b2 (made ++ first) others (ap (λ l. taken ++ l) cut ∙ sym (append_assoc taken b1 b2)) (ap (λ l. made ++ l) is ∙ sym (append_assoc made first others)) (r.completed b1 first h) (rest_from (append_assoc done taken b1) o)
+          rest_next (taken ++ b1) b2 (made ++ first) others
+          (ap (λ l. taken ++ l) cut ∙ sym (append_assoc taken b1 b2))
+          (ap (λ l. made ++ l) is ∙ sym (append_assoc made first others)) (r.completed b1 first h)
+          (rest_from (append_assoc done taken b1) o)
 
       forth : (x : List ℕ) → Goes d (old ∷ outer) done (taken ++ x) → Goes d (new ∷ outer) (done ++ taken) x
       forth x (goes_next b1 b2 first cut h o) =
@@ -206,13 +230,22 @@ module _ (d : DescV) where
           let place : done ++ b1 ≡ (done ++ taken) ++ pieces.more = ap (λ l. done ++ l) pieces.is ∙ sym (append_assoc done taken pieces.more) in
           goes_next pieces.more b2 made_of.0 pieces.others made_of.2 (goes_from place o)
       forth x (goes_here h within) =
-          goes_here (r.begins x h) (r.up_new (length (done ++ taken) + length x), within_along outer (omega (arith, length-append taken x, length-append done taken)) within.1)
+          goes_here (r.begins x h) (
+            r.up_new (length (done ++ taken) + length x),
+            within_along outer
+                (omega (arith, length-append taken x, length-append done taken)) within.1,
+          )
 
       home : (x : List ℕ) → Goes d (new ∷ outer) (done ++ taken) x → Goes d (old ∷ outer) done (taken ++ x)
       home x (goes_next b1 b2 first cut h o) =
-          goes_next (taken ++ b1) b2 (made ++ first) (ap (λ l. taken ++ l) cut ∙ sym (append_assoc taken b1 b2)) (r.completed b1 first h) (goes_from (append_assoc done taken b1) o)
+          goes_next (taken ++ b1) b2 (made ++ first) (ap (λ l. taken ++ l) cut ∙ sym (append_assoc taken b1 b2))
+          (r.completed b1 first h) (goes_from (append_assoc done taken b1) o)
       home x (goes_here h within) =
-          goes_here (r.begun x h) (r.up_old (length done + length (taken ++ x)), within_along outer (omega (arith, length-append taken x, length-append done taken)) within.1)
+          goes_here (r.begun x h) (
+            r.up_old (length done + length (taken ++ x)),
+            within_along outer
+                (omega (arith, length-append taken x, length-append done taken)) within.1,
+          )
 
   -- ---- one form made two
 
@@ -230,7 +263,17 @@ module _ (d : DescV) where
   -- the inner one by all bits, and the other one is left behind them
   pub takes_all : {inner left : Left} {done : List ℕ} {moves : List Move} (b : List ℕ) (first : List Move) → moves ≡ first ++ Leave ∷ []
       → Completes d inner done b first → Completes d left (done ++ b) [] (Leave ∷ []) → Both inner left done b moves
-  takes_all b first is within later = record { b1 = b; b2 = []; first = first; others = Leave ∷ []; cut = sym (append-nil b); is = is; inside = within; outside = later }
+  takes_all b first is within later = record {
+    b1 = b;
+    b2 = [];
+    first = first;
+    others = Leave ∷ [];
+    cut =
+        sym (append-nil b);
+    is = is;
+    inside = within;
+    outside = later;
+  }
 
   -- the bits begin the inner one of two forms, or end it and begin the other one, inside a window that the other
   -- one may be
@@ -258,7 +301,8 @@ module _ (d : DescV) where
   placed_behind done b1 b2 cut = omega (arith, ap length cut, length-append b1 b2, length-append done b1)
 
   -- ways to follow two forms, the inner one first
-  pub both_go : {inner left : Left} (outer : List Left) {done b : List ℕ} → ((place : ℕ) → IsUpTo inner place) → BeginsBoth inner left done b → Within outer (length done + length b) → Goes d (inner ∷ left ∷ outer) done b
+  pub both_go : {inner left : Left} (outer : List Left) {done b : List ℕ} → ((place : ℕ) → IsUpTo inner place)
+      → BeginsBoth inner left done b → Within outer (length done + length b) → Goes d (inner ∷ left ∷ outer) done b
   both_go outer {done = done} {b = b} up (begins_inner h below) within = goes_here h (up (length done + length b), (below, within))
   both_go {left = left} outer {done = done} {b = b} up (begins_left b1 b2 first cut h rest below) within =
       let same = placed_behind done b1 b2 cut in
@@ -276,28 +320,68 @@ module _ (d : DescV) where
   both_gone {inner} {left} {outer} {done} {b} (goes_here h within) = gone_here (begins_inner h within.1.0) within.1.1
   both_gone {inner} {left} {outer} {done} {b} (goes_next b1 b2 first cut h g) = behind_it b1 b2 first cut h g
     where
-      behind_it : (b1 b2 : List ℕ) (first : List Move) → b ≡ b1 ++ b2 → Completes d inner done b1 first → Goes d (left ∷ outer) (done ++ b1) b2 → BothGone inner left outer done b
+      behind_it : (b1 b2 : List ℕ) (first : List Move) → b ≡ b1 ++ b2 → Completes d inner done b1 first
+          → Goes d (left ∷ outer) (done ++ b1) b2 → BothGone inner left outer done b
       behind_it b1 b2 first cut h (goes_here rest within) =
           let same = sym (placed_behind done b1 b2 cut) in
           gone_here (begins_left b1 b2 first cut h rest (up_along left same within.0)) (within_along outer same within.1)
       behind_it b1 b2 first cut h (goes_next c1 c2 others cut_more rest g) =
-          gone_on (b1 ++ c1) c2 (first ++ others) (cut ∙ ap (λ l. b1 ++ l) cut_more ∙ sym (append_assoc b1 c1 c2)) (record { b1 = b1; b2 = c1; first = first; others = others; cut = refl; is = refl; inside = h; outside = rest }) (goes_from (append_assoc done b1 c1) g)
+          gone_on (b1 ++ c1) c2 (first ++ others) (cut ∙ ap (λ l. b1 ++ l) cut_more ∙ sym (append_assoc b1 c1 c2))
+          (record {
+            b1 = b1;
+            b2 = c1;
+            first = first;
+            others = others;
+            cut = refl;
+            is = refl;
+            inside = h;
+            outside =
+                rest;
+          }) (goes_from (append_assoc done b1 c1) g)
 
   -- what ends the block, or can be followed, behind two forms that are completed
-  pub both_rest : {inner left : Left} {outer : List Left} {done b1 b2 x : List ℕ} {first others rest : List Move} → x ≡ b1 ++ b2 → rest ≡ first ++ others → Both inner left done b1 first → Rest d outer (done ++ b1) b2 others → Rest d (inner ∷ left ∷ outer) done x rest
+  pub both_rest : {inner left : Left} {outer : List Left} {done b1 b2 x : List ℕ} {first others rest : List Move}
+      → x ≡ b1 ++ b2 → rest ≡ first ++ others → Both inner left done b1 first → Rest d outer (done ++ b1) b2 others
+      → Rest d (inner ∷ left ∷ outer) done x rest
   both_rest {done = done} {b2 = b2} {others = others} cut made both o =
-      rest_next both.b1 (both.b2 ++ b2) both.first (both.others ++ others) (cut ∙ ap (λ l. l ++ b2) both.cut ∙ append_assoc both.b1 both.b2 b2) (made ∙ ap (λ l. l ++ others) both.is ∙ append_assoc both.first both.others others) both.inside (rest_next both.b2 b2 both.others others refl refl both.outside (rest_from (ap (λ l. done ++ l) both.cut ∙ sym (append_assoc done both.b1 both.b2)) o))
+      rest_next both.b1 (both.b2 ++ b2) both.first (both.others ++ others)
+      (cut ∙ ap (λ l. l ++ b2) both.cut ∙ append_assoc both.b1 both.b2 b2)
+      (made ∙ ap (λ l. l ++ others) both.is ∙ append_assoc both.first both.others others) both.inside
+      (rest_next both.b2 b2 both.others others refl refl both.outside
+      (rest_from (ap (λ l. done ++ l) both.cut ∙ sym (append_assoc done both.b1 both.b2)) o))
 
-  pub both_goes : {inner left : Left} {outer : List Left} {done b1 b2 x : List ℕ} {first : List Move} → x ≡ b1 ++ b2 → Both inner left done b1 first → Goes d outer (done ++ b1) b2 → Goes d (inner ∷ left ∷ outer) done x
+  pub both_goes : {inner left : Left} {outer : List Left} {done b1 b2 x : List ℕ} {first : List Move}
+      → x ≡ b1 ++ b2 → Both inner left done b1 first → Goes d outer (done ++ b1) b2 → Goes d (inner ∷ left ∷ outer)
+      done x
   both_goes {done = done} {b2 = b2} cut both g =
-      goes_next both.b1 (both.b2 ++ b2) both.first (cut ∙ ap (λ l. l ++ b2) both.cut ∙ append_assoc both.b1 both.b2 b2) both.inside (goes_next both.b2 b2 both.others refl both.outside (goes_from (ap (λ l. done ++ l) both.cut ∙ sym (append_assoc done both.b1 both.b2)) g))
+      goes_next both.b1 (both.b2 ++ b2) both.first
+      (cut ∙ ap (λ l. l ++ b2) both.cut ∙ append_assoc both.b1 both.b2 b2) both.inside
+      (goes_next both.b2 b2 both.others refl both.outside
+      (goes_from (ap (λ l. done ++ l) both.cut ∙ sym (append_assoc done both.b1 both.b2)) g))
 
   -- what ends the block completes two forms first, and so the one that they were made of
-  pub rest_both : {old inner left : Left} {outer : List Left} {done x : List ℕ} {rest : List Move} (made : List Move) → ((b : List ℕ) (moves : List Move) → Both inner left done b moves → Completes d old done b (made ++ moves)) → Rest d (inner ∷ left ∷ outer) done x rest → Rest d (old ∷ outer) done x (made ++ rest)
+  pub rest_both : {old inner left : Left} {outer : List Left} {done x : List ℕ} {rest : List Move} (made : List Move)
+      → ((b : List ℕ) (moves : List Move) → Both inner left done b moves → Completes d old done b (made ++ moves))
+      → Rest d (inner ∷ left ∷ outer) done x rest → Rest d (old ∷ outer) done x (made ++ rest)
   rest_both {done = done} made whole (rest_next b1 y first others cut is h (rest_next c1 c2 second last cut_more is_more h2 o)) =
-      rest_next (b1 ++ c1) c2 (made ++ (first ++ second)) last (cut ∙ ap (λ l. b1 ++ l) cut_more ∙ sym (append_assoc b1 c1 c2)) (ap (λ l. made ++ l) (is ∙ ap (λ l. first ++ l) is_more ∙ sym (append_assoc first second last)) ∙ sym (append_assoc made (first ++ second) last)) (whole (b1 ++ c1) (first ++ second) (record { b1 = b1; b2 = c1; first = first; others = second; cut = refl; is = refl; inside = h; outside = h2 })) (rest_from (append_assoc done b1 c1) o)
+      rest_next (b1 ++ c1) c2 (made ++ (first ++ second)) last
+      (cut ∙ ap (λ l. b1 ++ l) cut_more ∙ sym (append_assoc b1 c1 c2))
+      (ap (λ l. made ++ l) (is ∙ ap (λ l. first ++ l) is_more ∙ sym (append_assoc first second last))
+      ∙ sym (append_assoc made (first ++ second) last))
+      (whole (b1 ++ c1) (first ++ second) (record {
+        b1 = b1;
+        b2 = c1;
+        first = first;
+        others = second;
+        cut =
+            refl;
+        is = refl;
+        inside = h;
+        outside = h2;
+      })) (rest_from (append_assoc done b1 c1) o)
 
-  pub split : {old inner left : Left} {done : List ℕ} {made : List Move} (outer : List Left) (ahead : List ℕ) → Splits old inner left done made → Steps d (old ∷ outer) (inner ∷ left ∷ outer) done [] ahead made
+  pub split : {old inner left : Left} {done : List ℕ} {made : List Move} (outer : List Left) (ahead : List ℕ)
+      → Splits old inner left done made → Steps d (old ∷ outer) (inner ∷ left ∷ outer) done [] ahead made
   split {old} {inner} {left} {done} {made} outer ahead s =
       record {
         ends = λ later rest h. on (ahead ++ later) rest h;
@@ -306,10 +390,15 @@ module _ (d : DescV) where
         went = λ b agrees g. home b (both_gone (goes_from (append-nil done) g));
       }
     where
-      on : (x : List ℕ) (rest : List Move) → Rest d (old ∷ outer) done x rest → (more : List Move) × (rest ≡ made ++ more) × Rest d (inner ∷ left ∷ outer) (done ++ []) x more
+      on : (x : List ℕ) (rest : List Move) → Rest d (old ∷ outer) done x rest → (more : List Move)
+          × (rest ≡ made ++ more) × Rest d (inner ∷ left ∷ outer) (done ++ []) x more
       on x rest (rest_next b1 b2 first others cut is h o) =
-          let found = s.completes b1 first h in
-          (found.0 ++ others, is ∙ ap (λ l. l ++ others) found.1 ∙ append_assoc made found.0 others, rest_from (sym (append-nil done)) (both_rest cut refl found.2 o))
+          let found = s.completes b1 first h in (
+            found.0 ++ others,
+            is ∙ ap (λ l. l ++ others) found.1 ∙ append_assoc made found.0 others,
+            rest_from
+                (sym (append-nil done)) (both_rest cut refl found.2 o),
+          )
 
       forth : (x : List ℕ) → Goes d (old ∷ outer) done x → Goes d (inner ∷ left ∷ outer) done x
       forth x (goes_here h within) = both_go outer s.up_inner (s.begins x h) within.1
@@ -321,7 +410,9 @@ module _ (d : DescV) where
 
   -- ---- the innermost node is left
 
-  pub popped : {outer : List Left} {done : List ℕ} (ahead : List ℕ) → (Within outer (length done) → Goes d outer done []) → Steps d (none_left ∷ outer) outer done [] ahead (Leave ∷ [])
+  pub popped : {outer : List Left} {done : List ℕ} (ahead : List ℕ)
+      → (Within outer (length done) → Goes d outer done [])
+      → Steps d (none_left ∷ outer) outer done [] ahead (Leave ∷ [])
   popped {outer} {done} ahead empty =
       record {
         ends = λ later rest h. on (ahead ++ later) rest h;
@@ -330,12 +421,14 @@ module _ (d : DescV) where
         went = λ b agrees g. goes_next [] b (Leave ∷ []) refl (completes_none refl refl) g;
       }
     where
-      on : (x : List ℕ) (rest : List Move) → Rest d (none_left ∷ outer) done x rest → (more : List Move) × (rest ≡ (Leave ∷ []) ++ more) × Rest d outer (done ++ []) x more
+      on : (x : List ℕ) (rest : List Move) → Rest d (none_left ∷ outer) done x rest → (more : List Move)
+          × (rest ≡ (Leave ∷ []) ++ more) × Rest d outer (done ++ []) x more
       on x rest (rest_next b1 b2 first others cut is (completes_none none leave) o) =
           (others, is ∙ ap (λ l. l ++ others) leave, rest_along (sym (cut ∙ ap (λ l. l ++ b2) none)) (rest_from (ap (λ l. done ++ l) none) o))
 
       forth : (x : List ℕ) → Goes d (none_left ∷ outer) done x → Goes d outer (done ++ []) x
-      forth x (goes_next b1 b2 first cut (completes_none none leave) g) = goes_along (sym (cut ∙ ap (λ l. l ++ b2) none)) (goes_from (ap (λ l. done ++ l) none) g)
+      forth x (goes_next b1 b2 first cut (completes_none none leave) g) =
+          goes_along (sym (cut ∙ ap (λ l. l ++ b2) none)) (goes_from (ap (λ l. done ++ l) none) g)
       forth x (goes_here (begins_whole moves (completes_none none leave)) within) =
           let same : length done + length x ≡ length done = omega (arith, ap length none) in
           goes_along (sym none) (goes_from (sym (append-nil done)) (empty (within_along outer same within.1)))

@@ -6,7 +6,10 @@ use Rattle.csn_desc.specs.declared.moves.Move.TheVariants.{Enter, Bit, Leave}
 use Rattle.csn_desc.specs.declared.node.Node.{Node}
 use Rattle.csn_desc.specs.TreeV.{TreeV, Trees}
 use Rattle.csn_desc.specs.Nodes.{DescV}
-use Rattle.csn_desc.specs.Walks.{Walk, NodeWalk, PartsWalk, RepeatsWalk, LeadWalk, walk_at, walk_lits, walk_spare, walk_pad, walk_null, walk_field, walk_rest, walk_seq, walk_choice, walk_times, walk_many, walk_trunc, walk_window, walk_named, parts_end, parts_next, repeats_end, repeats_next, lead_end, lead_next}
+use Rattle.csn_desc.specs.Walks.{Walk, NodeWalk, PartsWalk, RepeatsWalk, LeadWalk, walk_at, walk_lits, walk_spare}
+use Rattle.csn_desc.specs.Walks.{walk_pad, walk_null, walk_field, walk_rest, walk_seq, walk_choice, walk_times}
+use Rattle.csn_desc.specs.Walks.{walk_many, walk_trunc, walk_window, walk_named, parts_end, parts_next, repeats_end}
+use Rattle.csn_desc.specs.Walks.{repeats_next, lead_end, lead_next}
 use Rattle.csn_judge.specs.Told.{BitsTold, Tells, tells_none, tells_enter, tells_bit, tells_leave}
 
 -- one more bit
@@ -22,7 +25,8 @@ bits_told-all node [] s = refl
 bits_told-all node (bit ∷ bits) s = (s, tt, bits_told-all node bits s)
 
 -- what each move keeps is kept by all
-pub tells_fit : (d : DescV) {S : Type 0} (takes : S → Move → Node → S → Type 0) (fits : S → Type 0) → ((old new : S) (step : Move) (node : Node) → takes old step node new → fits old → fits new)
+pub tells_fit : (d : DescV) {S : Type 0} (takes : S → Move → Node → S → Type 0) (fits : S → Type 0)
+    → ((old new : S) (step : Move) (node : Node) → takes old step node new → fits old → fits new)
     → {around others : List ℕ} {moves : List Move} {s t : S} → Tells d takes around moves others s t → fits s → fits t
 tells_fit d takes fits keeps (tells_none same still) fit = subst fits (sym still) fit
 tells_fit d takes fits keeps (tells_enter node next at took rest) fit = tells_fit d takes fits keeps rest (keeps _ next _ node took fit)
@@ -48,12 +52,14 @@ module _ (d : DescV) {S : Type 0} (s : S) where
   bits_first [] at more others later = later
   bits_first {n = n} (bit ∷ b) at more others later = tells_bit n s at tt (bits_first b at more others later)
 
-  bits_before : {around : List ℕ} {i : ℕ} {n : Node} {moves : List Move} (b : List ℕ) → slice_get d.nodes i ≡ Some n → moves ≡ map Bit b → Before (i ∷ around) moves
+  bits_before : {around : List ℕ} {i : ℕ} {n : Node} {moves : List Move} (b : List ℕ) → slice_get d.nodes i ≡ Some n
+      → moves ≡ map Bit b → Before (i ∷ around) moves
   bits_before {around} {i} b at is more others later =
       let P : List Move → Type 0 = λ l. Tells d Any (i ∷ around) l others s s in
       subst P (sym (ap (λ l. l ++ more) is)) (bits_first b at more others later)
 
-  joined_before : {around : List ℕ} {moves : List Move} (first rest : List Move) → moves ≡ first ++ rest → Before around first → Before around rest → Before around moves
+  joined_before : {around : List ℕ} {moves : List Move} (first rest : List Move)
+      → moves ≡ first ++ rest → Before around first → Before around rest → Before around moves
   joined_before {around} first rest is one then more others later =
       let P : List Move → Type 0 = λ l. Tells d Any around l others s s in
       subst P (sym (ap (λ l. l ++ more) is ∙ append_assoc first rest more)) (one (rest ++ more) others (then more others later))
@@ -66,7 +72,8 @@ module _ (d : DescV) {S : Type 0} (s : S) where
         let inner = node_before around at walks (Leave ∷ more) others (tells_leave n s at tt later) in
         subst P (sym (ap (λ l. l ++ more) is)) (tells_enter n s at tt (subst Q (sym (append_assoc inside (Leave ∷ []) more)) inner))
 
-    node_before : {i o : ℕ} {n : Node} {t : TreeV} {moves : List Move} (around : List ℕ) → slice_get d.nodes i ≡ Some n → NodeWalk d n o t moves → Before (i ∷ around) moves
+    node_before : {i o : ℕ} {n : Node} {t : TreeV} {moves : List Move} (around : List ℕ)
+        → slice_get d.nodes i ≡ Some n → NodeWalk d n o t moves → Before (i ∷ around) moves
     node_before around at (walk_lits is) = bits_before _ at is
     node_before around at (walk_spare is) = bits_before _ at is
     node_before around at (walk_pad is) = bits_before _ at is

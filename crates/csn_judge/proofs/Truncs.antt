@@ -1,5 +1,7 @@
 -- Truncations: a component is read where a bit is at hand, and behind the last one nothing is left.
-use Rattle.std.proofs.Common.{◌≡◌, ℕ, suc, ◌+◌, ◌-◌, ◌%◌, ◌<◌, ◌⊎◌, inl, inr, List, [], ◌∷◌, ◌++◌, length, take, refl, sym, ◌∙◌, ap, subst, arith, append_assoc, append-nil, length-append, Option, Some, slice_get}
+use Rattle.std.proofs.Common.{◌≡◌, ℕ, suc, ◌+◌, ◌-◌, ◌%◌, ◌<◌, ◌⊎◌, inl, inr, List, [], ◌∷◌, ◌++◌, length, take, refl}
+use Rattle.std.proofs.Common.{sym, ◌∙◌, ap, subst, arith, append_assoc, append-nil, length-append, Option, Some}
+use Rattle.std.proofs.Common.{slice_get}
 use Rattle.csn_desc.specs.declared.moves.Move.{Move}
 use Rattle.csn_desc.specs.declared.moves.Move.TheVariants.{Leave}
 use Rattle.csn_desc.specs.declared.node.Node.TheVariants.{Trunc}
@@ -15,10 +17,15 @@ use Rattle.csn_desc.specs.Formed.{IsDescription}
 use Rattle.csn_look.specs.Ends.{PartsEnd}
 use Rattle.csn_look.specs.Reached.{MayStandBehind}
 use Rattle.csn_certify.specs.Conflicts.{Certified}
-use Rattle.csn_judge.specs.Left.{Left, all_left, none_left, cut_left, lead_left, behind, Completes, completes_all, completes_none, completes_cut, completes_lead, completes_cut_behind, completes_lead_behind, Begins, begins_whole, begins_all, begins_cut, begins_lead, begins_lead_none}
+use Rattle.csn_judge.specs.Left.{Left, all_left, none_left, cut_left, lead_left, behind, Completes, completes_all}
+use Rattle.csn_judge.specs.Left.{completes_none, completes_cut, completes_lead, completes_cut_behind}
+use Rattle.csn_judge.specs.Left.{completes_lead_behind, Begins, begins_whole, begins_all, begins_cut, begins_lead}
+use Rattle.csn_judge.specs.Left.{begins_lead_none}
 use Rattle.csn_judge.specs.Remains.{IsUpTo, Within, Rest, rest_next, Goes, goes_next, goes_here, Steps}
 use Rattle.csn_judge.specs.Inside.{IsReady, Inside}
-use Rattle.csn_judge.proofs.StepFacts.{rest_from, goes_from, Both, takes_all, BeginsBoth, begins_inner, begins_left, BothGone, gone_here, gone_on, both_gone, both_go, Alike, both_rest, both_goes, rest_both, steps_quietly}
+use Rattle.csn_judge.proofs.StepFacts.{rest_from, goes_from, Both, takes_all, BeginsBoth, begins_inner, begins_left}
+use Rattle.csn_judge.proofs.StepFacts.{BothGone, gone_here, gone_on, both_gone, both_go, Alike, both_rest, both_goes}
+use Rattle.csn_judge.proofs.StepFacts.{rest_both, steps_quietly}
 use Rattle.csn_judge.proofs.Parts.{Moving, walk_takes, follow_whole, followed_all, ended, later_on, later_off, walk_on, walk_off, part_apart}
 use Rattle.csn_judge.proofs.Standing.{rest_stands, goes_stands, truncation_width}
 use Rattle.csn_judge.proofs.LookAhead.{Against, beyond, before, against_of, within_less}
@@ -33,10 +40,12 @@ module _ (d : DescV) (laws : Moving) where
     pub walks : LeadWalk d (j ∷ ps) (length done) trees inside
     pub leave : moves ≡ inside ++ Leave ∷ []
 
-  pub lead_apart : (j : ℕ) (ps : List ℕ) (v : Values) (done : List ℕ) {b : List ℕ} {moves : List Move} → LeadTold j ps v done b moves → Both d (all_left j v) (lead_left j (length done) ps v) done b moves
+  pub lead_apart : (j : ℕ) (ps : List ℕ) (v : Values) (done : List ℕ) {b : List ℕ} {moves : List Move}
+      → LeadTold j ps v done b moves → Both d (all_left j v) (lead_left j (length done) ps v) done b moves
   lead_apart j ps v done {b} {moves} told = by told.means told.walks refl
     where
-      by : {ts us : Trees} → LeadMean d (j ∷ ps) (length done) v b ts → LeadWalk d (j ∷ ps) (length done) us told.inside → ts ≡ us → Both d (all_left j v) (lead_left j (length done) ps v) done b moves
+      by : {ts us : Trees} → LeadMean d (j ∷ ps) (length done) v b ts → LeadWalk d (j ∷ ps) (length done)
+          us told.inside → ts ≡ us → Both d (all_left j v) (lead_left j (length done) ps v) done b moves
       by means (walk.lead_end stays) e = absurd (no_trees means e)
         where
           no_trees : {ts : Trees} → LeadMean d (j ∷ ps) (length done) v b ts → ts ≡ tree.none → ⊥
@@ -58,12 +67,17 @@ module _ (d : DescV) (laws : Moving) where
           let trees : t ≡ u = cc in
           let later : ts ≡ us = cc in
           let Q : Trees → Type 0 = λ x. LeadMean d ps (length done + length b1) (with_value d.nodes j b1 v) b2 x in
-          part_apart d laws rest cut h w trees told.leave made (λ takes. completes_lead_behind us (later_on d laws (λ o w. LeadMean d ps o w b2 us) j v done b1 (subst Q later others)) (walk_on d laws (λ o. LeadWalk d ps o us rest) done b1 first takes ws) refl)
+          part_apart d laws rest cut h w trees told.leave made
+          (λ takes. completes_lead_behind us (later_on d laws (λ o w. LeadMean d ps o w b2 us) j v done b1
+          (subst Q later others)) (walk_on d laws (λ o. LeadWalk d ps o us rest) done b1 first takes ws) refl)
 
-  pub lead_together : (j : ℕ) (ps : List ℕ) (v : Values) (done : List ℕ) {b : List ℕ} {moves : List Move} → Both d (all_left j v) (lead_left j (length done) ps v) done b moves → LeadTold j ps v done b moves
+  pub lead_together : (j : ℕ) (ps : List ℕ) (v : Values) (done : List ℕ) {b : List ℕ} {moves : List Move}
+      → Both d (all_left j v) (lead_left j (length done) ps v) done b moves → LeadTold j ps v done b moves
   lead_together j ps v done {b} {moves} both = by both.b1 both.b2 both.first both.others both.cut both.is both.inside both.outside
     where
-      by : (b1 b2 : List ℕ) (first others : List Move) → b ≡ b1 ++ b2 → moves ≡ first ++ others → Completes d (all_left j v) done b1 first → Completes d (lead_left j (length done) ps v) (done ++ b1) b2 others → LeadTold j ps v done b moves
+      by : (b1 b2 : List ℕ) (first others : List Move) → b ≡ b1 ++ b2 → moves ≡ first ++ others
+          → Completes d (all_left j v) done b1 first → Completes d (lead_left j (length done) ps v) (done ++ b1)
+          b2 others → LeadTold j ps v done b moves
       by b1 b2 first others cut is (completes_all t h w) (completes_cut_behind has nothing leave) =
           let same : b1 ≡ b = sym (append-nil b1) ∙ ap (λ l. b1 ++ l) (sym nothing) ∙ sym cut in
           let P : List ℕ → Type 0 = λ l. NMeans d j (length done) v l t in
@@ -84,31 +98,48 @@ module _ (d : DescV) (laws : Moving) where
             leave = is ∙ ap (λ l. first ++ l) leave ∙ sym (append_assoc first rest (Leave ∷ []));
           }
 
-  pub follow_apart : (j : ℕ) (ps : List ℕ) (v : Values) (done : List ℕ) {b : List ℕ} → PartsFollow d (j ∷ ps) (length done) v b → BeginsBoth d (all_left j v) (lead_left j (length done) ps v) done b
+  pub follow_apart : (j : ℕ) (ps : List ℕ) (v : Values) (done : List ℕ) {b : List ℕ}
+      → PartsFollow d (j ∷ ps) (length done) v b → BeginsBoth d (all_left j v) (lead_left j (length done) ps v) done b
   follow_apart j ps v done (parts_here f) = begins_inner (begins_all f) tt
   follow_apart j ps v done (parts_later b1 b2 cut h rest) =
       let first = ended d laws h in
-      begins_left b1 b2 first.moves cut (completes_all first.tree first.means first.walks) (begins_lead (later_on d laws (λ o w. PartsFollow d ps o w b2) j v done b1 rest)) tt
+      begins_left b1 b2 first.moves cut (completes_all first.tree first.means first.walks)
+      (begins_lead (later_on d laws (λ o w. PartsFollow d ps o w b2) j v done b1 rest)) tt
 
-  pub whole_apart : (j : ℕ) (ps : List ℕ) (v : Values) (done : List ℕ) {b : List ℕ} {moves : List Move} → Both d (all_left j v) (lead_left j (length done) ps v) done b moves → BeginsBoth d (all_left j v) (lead_left j (length done) ps v) done b
+  pub whole_apart : (j : ℕ) (ps : List ℕ) (v : Values) (done : List ℕ) {b : List ℕ} {moves : List Move}
+      → Both d (all_left j v) (lead_left j (length done) ps v) done b moves
+      → BeginsBoth d (all_left j v) (lead_left j (length done) ps v) done b
   whole_apart j ps v done both = begins_left both.b1 both.b2 both.first both.cut both.inside (begins_whole both.others both.outside) tt
 
   pub data LeadBegun (j : ℕ) (ps : List ℕ) (v : Values) (done b : List ℕ) : Type 0 where
     lead_follow : PartsFollow d (j ∷ ps) (length done) v b → LeadBegun j ps v done b
     lead_whole : (moves : List Move) → LeadTold j ps v done b moves → LeadBegun j ps v done b
 
-  pub follow_together : (j : ℕ) (ps : List ℕ) (v : Values) (done : List ℕ) {b : List ℕ} → BeginsBoth d (all_left j v) (lead_left j (length done) ps v) done b → LeadBegun j ps v done b
+  pub follow_together : (j : ℕ) (ps : List ℕ) (v : Values) (done : List ℕ) {b : List ℕ}
+      → BeginsBoth d (all_left j v) (lead_left j (length done) ps v) done b → LeadBegun j ps v done b
   follow_together j ps v done (begins_inner h up) = lead_follow (parts_here (followed_all d laws h))
   follow_together j ps v done {b} (begins_left b1 b2 first cut h rest up) = by h rest
     where
       by : Completes d (all_left j v) done b1 first → Begins d (lead_left j (length done) ps v) (done ++ b1) b2 → LeadBegun j ps v done b
-      by (completes_all t means w) (begins_lead f) = lead_follow (parts_later b1 b2 cut means (later_off d laws (λ o w. PartsFollow d ps o w b2) j v done b1 f))
+      by (completes_all t means w) (begins_lead f) =
+          lead_follow (parts_later b1 b2 cut means (later_off d laws (λ o w. PartsFollow d ps o w b2) j v done b1 f))
       by (completes_all t means w) (begins_lead_none nothing) =
           let same : b1 ≡ b = sym (append-nil b1) ∙ ap (λ l. b1 ++ l) (sym nothing) ∙ sym cut in
           let P : List ℕ → Type 0 = λ l. NMeans d j (length done) v l t in
           lead_follow (parts_here (follow_whole d laws (subst P same means)))
       by h (begins_whole others k) =
-          lead_whole (first ++ others) (lead_together j ps v done (record { b1 = b1; b2 = b2; first = first; others = others; cut = cut; is = refl; inside = h; outside = k }))
+          lead_whole (first ++ others)
+          (lead_together j ps v done (record {
+            b1 = b1;
+            b2 = b2;
+            first = first;
+            others = others;
+            cut = cut;
+            is =
+                refl;
+            inside = h;
+            outside = k;
+          }))
 
 -- a bit is at hand for a truncation, of whose components some are read and others left
 pub record AtHand (d : DescV) (k start : ℕ) (parts before after : List ℕ) (v0 : Values) (outer : List Left) (done : List ℕ) : Type 0 where
@@ -124,12 +155,14 @@ behind_none : (done : List ℕ) {b1 : List ℕ} → b1 ≡ [] → done ++ b1 ≡
 behind_none done none = ap (λ l. done ++ l) none ∙ append-nil done
 
 module _ (d : DescV) (most : ℕ) (is : IsDescription d) (certified : Certified d most) (moving : Moving) (known : Known d) where
-  module _ {k start : ℕ} {parts before after : List ℕ} {v0 : Values} {outer : List Left} {done : List ℕ} (how : AtHand d k start parts before after v0 outer done) where
+  module _ {k start : ℕ} {parts before after : List ℕ} {v0 : Values} {outer : List Left} {done : List ℕ}
+      (how : AtHand d k start parts before after v0 outer done) where
     -- the truncation does not end before the bit
     no_end : (bit : ℕ) (rest : List ℕ) → MayStandBehind d k (length done % 8) (take (suc (length done) - length done) (bit ∷ rest)) → ⊥
     no_end bit rest stands =
         let one : suc (length done) - length done ≡ 1 = omega arith in
-        known.components d most k (start % 8) (length done % 8) bit parts before after certified how.at how.split how.ready.reached how.so_far (stands bit [] (ap (λ n. take n (bit ∷ rest)) one))
+        known.components d most k (start % 8) (length done % 8) bit parts before after certified how.at how.split
+        how.ready.reached how.so_far (stands bit [] (ap (λ n. take n (bit ∷ rest)) one))
 
     -- of bits that end what is open, and of bits that can be followed
     pub rest_not_here : (bit : ℕ) {rest b2 : List ℕ} {others : List Move} → bit ∷ rest ≡ b2 → Rest d outer done b2 others → ⊥
@@ -148,16 +181,23 @@ module _ (d : DescV) (most : ℕ) (is : IsDescription d) (certified : Certified 
   record Opens (old : Left) (j : ℕ) (ps : List ℕ) (v : Values) (done : List ℕ) : Type 0 where
     pub told : (b : List ℕ) (moves : List Move) → Completes d old done b moves → (b ≡ []) ⊎ LeadTold d moving j ps v done b moves
     pub whole : (b : List ℕ) (moves : List Move) → LeadTold d moving j ps v done b moves → Completes d old done b moves
-    pub begins : (b : List ℕ) → Begins d old done b → (b ≡ []) ⊎ (PartsFollow d (j ∷ ps) (length done) v b ⊎ ((moves : List Move) × LeadTold d moving j ps v done b moves))
+    pub begins : (b : List ℕ) → Begins d old done b → (b ≡ [])
+        ⊎ (PartsFollow d (j ∷ ps) (length done) v b ⊎ ((moves : List Move) × LeadTold d moving j ps v done b moves))
     pub begun : (b : List ℕ) → PartsFollow d (j ∷ ps) (length done) v b → Begins d old done b
     pub up : (place : ℕ) → IsUpTo old place
 
-  module _ {k start : ℕ} {parts earlier : List ℕ} {v0 : Values} {outer : List Left} {done : List ℕ} {old : Left} (j : ℕ) (ps : List ℕ) (v : Values) (how : AtHand d k start parts earlier (j ∷ ps) v0 outer done) (form : Opens old j ps v done) where
-    component : (bit : ℕ) (more : List ℕ) → NFollow d j (length done) v [] → Steps d (old ∷ outer) (all_left j v ∷ lead_left j (length done) ps v ∷ outer) done [] (bit ∷ more) []
+  module _ {k start : ℕ} {parts earlier : List ℕ} {v0 : Values} {outer : List Left} {done : List ℕ} {old : Left}
+      (j : ℕ) (ps : List ℕ) (v : Values) (how : AtHand d k start parts earlier (j ∷ ps) v0 outer done)
+      (form : Opens old j ps v done) where
+    component : (bit : ℕ) (more : List ℕ) → NFollow d j (length done) v []
+        → Steps d (old ∷ outer) (all_left j v ∷ lead_left j (length done) ps v ∷ outer) done [] (bit ∷ more) []
     component bit more empty =
-        steps_quietly d on (λ x rest g. rest_both d [] (λ b moves both. form.whole b moves (lead_together d moving j ps v done both)) g) (λ b agrees g. forth b (against_of b (bit ∷ []) more agrees) g) (λ b agrees g. home b (both_gone d g))
+        steps_quietly d on
+        (λ x rest g. rest_both d [] (λ b moves both. form.whole b moves (lead_together d moving j ps v done both))
+        g) (λ b agrees g. forth b (against_of b (bit ∷ []) more agrees) g) (λ b agrees g. home b (both_gone d g))
       where
-        on : (later : List ℕ) (rest : List Move) → Rest d (old ∷ outer) done ((bit ∷ more) ++ later) rest → Rest d (all_left j v ∷ lead_left j (length done) ps v ∷ outer) done ((bit ∷ more) ++ later) rest
+        on : (later : List ℕ) (rest : List Move) → Rest d (old ∷ outer) done ((bit ∷ more) ++ later) rest
+            → Rest d (all_left j v ∷ lead_left j (length done) ps v ∷ outer) done ((bit ∷ more) ++ later) rest
         on later rest (rest_next b1 b2 first others cut made c o) =
             elim (form.told b1 first c) [
               | inl none ↦ absurd (rest_not_here how bit (cut ∙ ap (λ l. l ++ b2) none) (rest_from d (behind_none done none) o))
@@ -190,28 +230,54 @@ module _ (d : DescV) (most : ℕ) (is : IsDescription d) (certified : Certified 
             ]
 
   -- the first one
-  pub first_component : {k start : ℕ} {parts before : List ℕ} {v0 : Values} {outer : List Left} {done : List ℕ} (j : ℕ) (ps : List ℕ) (v : Values) (bit : ℕ) (more : List ℕ) → AtHand d k start parts before (j ∷ ps) v0 outer done → NFollow d j (length done) v [] → Steps d (cut_left (j ∷ ps) v ∷ outer) (all_left j v ∷ lead_left j (length done) ps v ∷ outer) done [] (bit ∷ more) []
+  pub first_component : {k start : ℕ} {parts before : List ℕ} {v0 : Values} {outer : List Left} {done : List ℕ}
+      (j : ℕ) (ps : List ℕ) (v : Values) (bit : ℕ) (more : List ℕ)
+      → AtHand d k start parts before (j ∷ ps) v0 outer done → NFollow d j (length done) v []
+      → Steps d (cut_left (j ∷ ps) v ∷ outer) (all_left j v ∷ lead_left j (length done) ps v ∷ outer) done []
+      (bit ∷ more) []
   first_component {done = done} j ps v bit more how empty =
-      component j ps v how (record { told = told; whole = λ b moves t. completes_lead t.trees t.means t.walks t.leave; begins = begins; begun = λ b f. begins_cut f; up = λ place. tt }) bit more empty
+      component j ps v how (record {
+        told = told;
+        whole = λ b moves t. completes_lead t.trees t.means t.walks t.leave;
+        begins = begins;
+        begun = λ b f. begins_cut f;
+        up = λ place. tt;
+      }) bit more empty
     where
       told : (b : List ℕ) (moves : List Move) → Completes d (cut_left (j ∷ ps) v) done b moves → (b ≡ []) ⊎ LeadTold d moving j ps v done b moves
       told b moves (completes_cut none leave) = inl none
       told b moves (completes_lead {inside = inside} ts h ws leave) = inr (record { trees = ts; inside = inside; means = h; walks = ws; leave = leave })
 
-      begins : (b : List ℕ) → Begins d (cut_left (j ∷ ps) v) done b → (b ≡ []) ⊎ (PartsFollow d (j ∷ ps) (length done) v b ⊎ ((moves : List Move) × LeadTold d moving j ps v done b moves))
+      begins : (b : List ℕ) → Begins d (cut_left (j ∷ ps) v) done b → (b ≡ [])
+          ⊎ (PartsFollow d (j ∷ ps) (length done) v b ⊎ ((moves : List Move) × LeadTold d moving j ps v done b moves))
       begins b (begins_cut f) = inr (inl f)
       begins b (begins_whole moves c) = elim (told b moves c) [ inl none ↦ inl none | inr t ↦ inr (inr (moves, t)) ]
 
   -- and each later one
-  pub next_component : {k start : ℕ} {parts before : List ℕ} {v0 : Values} {outer : List Left} {done : List ℕ} (i from j : ℕ) (ps : List ℕ) (v : Values) (bit : ℕ) (more : List ℕ) → AtHand d k start parts before (j ∷ ps) v0 outer done → NFollow d j (length done) (behind d i from v done) [] → Steps d (lead_left i from (j ∷ ps) v ∷ outer) (all_left j (behind d i from v done) ∷ lead_left j (length done) ps (behind d i from v done) ∷ outer) done [] (bit ∷ more) []
+  pub next_component : {k start : ℕ} {parts before : List ℕ} {v0 : Values} {outer : List Left} {done : List ℕ}
+      (i from j : ℕ) (ps : List ℕ) (v : Values) (bit : ℕ) (more : List ℕ)
+      → AtHand d k start parts before (j ∷ ps) v0 outer done → NFollow d j (length done) (behind d i from v done) []
+      → Steps d (lead_left i from (j ∷ ps) v ∷ outer) (all_left j (behind d i from v done) ∷ lead_left j (length done)
+      ps (behind d i from v done) ∷ outer) done [] (bit ∷ more) []
   next_component {done = done} i from j ps v bit more how empty =
-      component j ps (behind d i from v done) how (record { told = told; whole = λ b moves t. completes_lead_behind t.trees t.means t.walks t.leave; begins = begins; begun = λ b f. begins_lead f; up = λ place. tt }) bit more empty
+      component j ps (behind d i from v done) how
+      (record {
+        told = told;
+        whole = λ b moves t. completes_lead_behind t.trees t.means t.walks t.leave;
+        begins =
+            begins;
+        begun = λ b f. begins_lead f;
+        up = λ place. tt;
+      }) bit more empty
     where
-      told : (b : List ℕ) (moves : List Move) → Completes d (lead_left i from (j ∷ ps) v) done b moves → (b ≡ []) ⊎ LeadTold d moving j ps (behind d i from v done) done b moves
+      told : (b : List ℕ) (moves : List Move) → Completes d (lead_left i from (j ∷ ps) v) done b moves → (b ≡ [])
+          ⊎ LeadTold d moving j ps (behind d i from v done) done b moves
       told b moves (completes_cut_behind some none leave) = inl none
       told b moves (completes_lead_behind {inside = inside} ts h ws leave) = inr (record { trees = ts; inside = inside; means = h; walks = ws; leave = leave })
 
-      begins : (b : List ℕ) → Begins d (lead_left i from (j ∷ ps) v) done b → (b ≡ []) ⊎ (PartsFollow d (j ∷ ps) (length done) (behind d i from v done) b ⊎ ((moves : List Move) × LeadTold d moving j ps (behind d i from v done) done b moves))
+      begins : (b : List ℕ) → Begins d (lead_left i from (j ∷ ps) v) done b → (b ≡ [])
+          ⊎ (PartsFollow d (j ∷ ps) (length done) (behind d i from v done) b ⊎ ((moves : List Move)
+          × LeadTold d moving j ps (behind d i from v done) done b moves))
       begins b (begins_lead f) = inr (inl f)
       begins b (begins_lead_none none) = inl none
       begins b (begins_whole moves c) = elim (told b moves c) [ inl none ↦ inl none | inr t ↦ inr (inr (moves, t)) ]
@@ -239,7 +305,9 @@ module _ (d : DescV) (most : ℕ) (is : IsDescription d) (certified : Certified 
       home b (begins_whole moves h) = begins_whole moves (back b moves h)
 
   -- behind the last component where it took none, and the bit is still at hand: then none ends what is open
-  pub none_behind : {k start : ℕ} {parts before : List ℕ} {v0 : Values} {outer : List Left} {done : List ℕ} (i from : ℕ) (v : Values) (bit : ℕ) (more : List ℕ) → AtHand d k start parts before [] v0 outer done → Steps d (lead_left i from [] v ∷ outer) (none_left ∷ outer) done [] (bit ∷ more) []
+  pub none_behind : {k start : ℕ} {parts before : List ℕ} {v0 : Values} {outer : List Left} {done : List ℕ}
+      (i from : ℕ) (v : Values) (bit : ℕ) (more : List ℕ) → AtHand d k start parts before [] v0 outer done
+      → Steps d (lead_left i from [] v ∷ outer) (none_left ∷ outer) done [] (bit ∷ more) []
   none_behind {outer = outer} {done = done} i from v bit more how =
       record {
         ends = λ later rest g. absurd (old_rest (more ++ later) rest g);
@@ -249,11 +317,13 @@ module _ (d : DescV) (most : ℕ) (is : IsDescription d) (certified : Certified 
       }
     where
       old_rest : (x : List ℕ) (rest : List Move) → Rest d (lead_left i from [] v ∷ outer) done (bit ∷ x) rest → ⊥
-      old_rest x rest (rest_next b1 b2 first others cut made (completes_cut_behind some none leave) o) = rest_not_here how bit (cut ∙ ap (λ l. l ++ b2) none) (rest_from d (behind_none done none) o)
+      old_rest x rest (rest_next b1 b2 first others cut made (completes_cut_behind some none leave) o) =
+          rest_not_here how bit (cut ∙ ap (λ l. l ++ b2) none) (rest_from d (behind_none done none) o)
       old_rest x rest (rest_next b1 b2 first others cut made (completes_lead_behind ts h ws leave) o) = elim h [ ]
 
       new_rest : (x : List ℕ) (rest : List Move) → Rest d (none_left ∷ outer) done (bit ∷ x) rest → ⊥
-      new_rest x rest (rest_next b1 b2 first others cut made (completes_none none leave) o) = rest_not_here how bit (cut ∙ ap (λ l. l ++ b2) none) (rest_from d (behind_none done none) o)
+      new_rest x rest (rest_next b1 b2 first others cut made (completes_none none leave) o) =
+          rest_not_here how bit (cut ∙ ap (λ l. l ++ b2) none) (rest_from d (behind_none done none) o)
 
       forth : (b : List ℕ) → Against b (bit ∷ []) → Goes d (lead_left i from [] v ∷ outer) done b → Goes d (none_left ∷ outer) done b
       forth [] against_it g = goes_here (begins_whole (Leave ∷ []) (completes_none refl refl)) (tt, within_less outer _ _ (omega arith) how.within)
@@ -261,10 +331,12 @@ module _ (d : DescV) (most : ℕ) (is : IsDescription d) (certified : Certified 
       forth (a ∷ b) against_it (goes_here (begins_lead_none none) within) = absurd (cc)
       forth (a ∷ b) against_it (goes_here (begins_whole moves (completes_cut_behind some none leave)) within) = absurd (cc)
       forth (a ∷ b) against_it (goes_here (begins_whole moves (completes_lead_behind ts h ws leave)) within) = elim h [ ]
-      forth (a ∷ b) against_it (goes_next b1 b2 first cut (completes_cut_behind some none leave) g) = absurd (goes_not_here how a (cut ∙ ap (λ l. l ++ b2) none) (goes_from d (behind_none done none) g))
+      forth (a ∷ b) against_it (goes_next b1 b2 first cut (completes_cut_behind some none leave) g) =
+          absurd (goes_not_here how a (cut ∙ ap (λ l. l ++ b2) none) (goes_from d (behind_none done none) g))
       forth (a ∷ b) against_it (goes_next b1 b2 first cut (completes_lead_behind ts h ws leave) g) = elim h [ ]
 
       home : (b : List ℕ) → Against b (bit ∷ []) → Goes d (none_left ∷ outer) done b → Goes d (lead_left i from [] v ∷ outer) done b
       home [] against_it g = goes_here (begins_lead_none refl) (tt, within_less outer _ _ (omega arith) how.within)
       home (a ∷ b) against_it (goes_here (begins_whole moves (completes_none none leave)) within) = absurd (cc)
-      home (a ∷ b) against_it (goes_next b1 b2 first cut (completes_none none leave) g) = absurd (goes_not_here how a (cut ∙ ap (λ l. l ++ b2) none) (goes_from d (behind_none done none) g))
+      home (a ∷ b) against_it (goes_next b1 b2 first cut (completes_none none leave) g) =
+          absurd (goes_not_here how a (cut ∙ ap (λ l. l ++ b2) none) (goes_from d (behind_none done none) g))

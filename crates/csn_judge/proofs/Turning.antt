@@ -1,5 +1,7 @@
 -- Turns of the frames of nodes with parts.
-use Rattle.std.proofs.Common.{inr, ◌≡◌, ℕ, suc, ◌+◌, ◌<◌, ◌≤◌, ◌⊎◌, ◌||◌, nat_lt, Bool, true, false, if◌then◌else◌, List, drop, [], ◌∷◌, ◌++◌, length, reverse, refl, sym, ◌∙◌, ap, subst, arith, append-nil, Option, Some, None, slice_get}
+use Rattle.std.proofs.Common.{inr, ◌≡◌, ℕ, suc, ◌+◌, ◌<◌, ◌≤◌, ◌⊎◌, ◌||◌, nat_lt, Bool, true, false, if◌then◌else◌}
+use Rattle.std.proofs.Common.{List, drop, [], ◌∷◌, ◌++◌, length, reverse, refl, sym, ◌∙◌, ap, subst, arith}
+use Rattle.std.proofs.Common.{append-nil, Option, Some, None, slice_get}
 use Rattle.std.proofs.lemmas.List.{reverse-append}
 use Rattle.std.proofs.lemmas.Option.{slice_get_within}
 use Rattle.std.proofs.lemmas.Bool.{ltb-true}
@@ -21,11 +23,17 @@ use Rattle.csn_judge.specs.Coming.{Coming}
 use Rattle.csn_judge.specs.Told.{Tells, tells_none, tells_leave}
 use Rattle.csn_desc.specs.Values.{is_named, is_labelled}
 use Rattle.csn_desc.specs.Formed.{is_counted}
-use Rattle.csn_judge.specs.Left.{Left, bits_left, symbols_left, spare_left, pad_left, rest_left, choice_left, free_left, cut_left, parts_left, lead_left, window_left, completes_window, all_left, none_left, turns_left}
+use Rattle.csn_judge.specs.Left.{Left, bits_left, symbols_left, spare_left, pad_left, rest_left, choice_left}
+use Rattle.csn_judge.specs.Left.{free_left, cut_left, parts_left, lead_left, window_left, completes_window, all_left}
+use Rattle.csn_judge.specs.Left.{none_left, turns_left}
 use Rattle.csn_judge.specs.Remains.{Passes, Within, Goes, Rest, rest_next}
 use Rattle.csn_judge.specs.Inside.{IsStack, stack_node, AreOwed, IsFresh, fresh_as, fresh_turn, of_all, of_turns, of_read, of_window}
 use Rattle.csn_certify.specs.KeptNumbers.{numbers_of}
-use Rattle.csn_judge.specs.Shown.{seen_in, seen_behind, limit_in, Round, Repeats, Cuts, round_none, round_choice, round_named, round_window, round_seq, round_trunc, round_times, round_many, Shows, shows_none, shows_begin, shows_turns, shows_free, shows_taken, shows_labelled, shows_window, shows_parts, shows_lead, shows_leaf, shows_counted, shows_open, shows_cut}
+use Rattle.csn_judge.specs.Shown.{seen_in, seen_behind, limit_in, Round, Repeats, Cuts, round_none, round_choice}
+use Rattle.csn_judge.specs.Shown.{round_named, round_window, round_seq, round_trunc, round_times, round_many, Shows}
+use Rattle.csn_judge.specs.Shown.{shows_none, shows_begin, shows_turns, shows_free, shows_taken, shows_labelled}
+use Rattle.csn_judge.specs.Shown.{shows_window, shows_parts, shows_lead, shows_leaf, shows_counted, shows_open}
+use Rattle.csn_judge.specs.Shown.{shows_cut}
 use Rattle.csn_judge.specs.Turns.{IsStopped, Turns, IsPassed, passed_choice, passed_label, fresh_at, begun_by, StateV, Stands, GoesOn, around_of, RefusesAt}
 use Rattle.csn_judge.proofs.StepFacts.{steps_none, goes_along, goes_from, split, popped, replaced, none_taken, alike, steps_then}
 use Rattle.csn_judge.proofs.Refusing.{window_stuck}
@@ -59,7 +67,8 @@ module _ (d : DescV) where
       few (formed n at small head parts counted later) = small
 
   -- a node that is not entered yet is one of the description
-  pub begun_within : {next : ℕ} {fresh : Option ℕ} {i : ℕ} {v : Values} {outer : List Left} {done : List ℕ} → IsStack d next fresh (all_left i v ∷ outer) done → i < length d.nodes
+  pub begun_within : {next : ℕ} {fresh : Option ℕ} {i : ℕ} {v : Values} {outer : List Left} {done : List ℕ}
+      → IsStack d next fresh (all_left i v ∷ outer) done → i < length d.nodes
   begun_within (stack_node k from w bits ready (of_all same place just) inside) = formed_within ready.formed
     where
       formed_within : {seen : List ℕ} {round j : ℕ} → Formed d.nodes seen round j → j < length d.nodes
@@ -195,9 +204,13 @@ module _ (d : DescV) where
   pub turn_stack : {n i : ℕ} {v : Values} {outer : List Left} {done : List ℕ} (pace : Pace) → Known d
       → IsStack d pace.next (fresh_at pace (length done)) (turns_left (suc n) i v ∷ outer) done
       → IsStack d (begun_by i pace).next (fresh_at (begun_by i pace) (length done)) (all_left i v ∷ turns_left n i v ∷ outer) done
-  turn_stack {n} {i} {outer = outer} {done = done} pace known (stack_node k from w bits ready (of_turns {count = count} at same turn order none up turned) inside) =
-      let P : Values → Type 0 = λ u. IsStack d (begun_by i pace).next (fresh_at (begun_by i pace) (length done)) (all_left i u ∷ turns_left n i u ∷ outer) done in
-      subst P (sym same) (of_begun d (turn_begun d 12 known.description known.certified _ (begun_fresh i (length done) pace) at turn order (λ e. ap (λ u. count_of u count) (sym same) ∙ none e) bits ready inside))
+  turn_stack {n} {i} {outer = outer} {done = done} pace known
+      (stack_node k from w bits ready (of_turns {count = count} at same turn order none up turned) inside) =
+      let P : Values → Type 0 = λ u. IsStack d (begun_by i pace).next (fresh_at (begun_by i pace) (length done))
+      (all_left i u ∷ turns_left n i u ∷ outer) done in
+      subst P (sym same)
+      (of_begun d (turn_begun d 12 known.description known.certified _ (begun_fresh i (length done) pace)
+      at turn order (λ e. ap (λ u. count_of u count) (sym same) ∙ none e) bits ready inside))
 
   -- the node round one of which nothing is left
   pub left_stack : {outer : List Left} {done : List ℕ} (pace : Pace) → Known d
@@ -236,13 +249,24 @@ module _ (d : DescV) where
 
   pub window_stands : {k start bits limit : ℕ} {frames : List Frame} {values : List Number} {stack : List Left} {done : List ℕ}
       → Shows d (frame.Window k start bits limit ∷ frames) values stack done → WindowStands k start bits limit frames values stack
-  window_stands (shows_window {outer = outer} i ends is kept round) = record { outer = outer; is = ap (λ (e : ℕ). window_left e ∷ outer) ends; kept = kept; i = i; cuts = is; round = round }
+  window_stands (shows_window {outer = outer} i ends is kept round) =
+      record {
+        outer = outer;
+        is = ap (λ (e : ℕ). window_left e ∷ outer) ends;
+        kept = kept;
+        i = i;
+        cuts = is;
+        round =
+            round;
+      }
 
   -- where it has its bits
   pub window_done : {next : ℕ} {fresh : Option ℕ} {end : ℕ} {outer : List Left} {done : List ℕ} → Known d → length done ≡ end
       → IsStack d next fresh (window_left end ∷ outer) done → IsStack d next fresh (none_left ∷ outer) done
   window_done known full (stack_node k from w bits ready (of_window n at counts is read up) inside) =
-      stack_node k from w bits ready (of_read (window_read d 12 known.description known.certified at counts (sym (full ∙ is)) ready.widths read) (up_part d [] _ [] at refl up)) inside
+      stack_node k from w bits ready
+      (of_read (window_read d 12 known.description known.certified at counts (sym (full ∙ is)) ready.widths read)
+      (up_part d [] _ [] at refl up)) inside
 
   -- a place that is not behind the limit is not behind the end of a window
   pub within_limit : (stack : List Left) (place : ℕ) → place ≤ limit_in stack → Within stack place
@@ -350,8 +374,10 @@ module _ (d : DescV) where
     -- what is open takes no bit here: it stays as it is
     pub stops :
         (frames : List Frame) (turn : Turn) → IsStopped coming turn → Known d
-        → ((stack : List Left) (done : List ℕ) → Stands d (state frames) stack done → (bit : ℕ) (rest : List ℕ) → coming.bits ≡ bit ∷ rest → ¬ Goes d stack done (bit ∷ []))
-        → ((stack : List Left) (done : List ℕ) → Stands d (state frames) stack done → coming.ended ≡ true → (frames ≡ []) ⊎ ((rest : List Move) → ¬ Rest d stack done [] rest))
+        → ((stack : List Left) (done : List ℕ) → Stands d (state frames) stack done → (bit : ℕ) (rest : List ℕ)
+        → coming.bits ≡ bit ∷ rest → ¬ Goes d stack done (bit ∷ []))
+        → ((stack : List Left) (done : List ℕ) → Stands d (state frames) stack done → coming.ended ≡ true
+        → (frames ≡ []) ⊎ ((rest : List Move) → ¬ Rest d stack done [] rest))
         → Turns d takes (state frames) (state frames) before before turn
     stops frames Moved stopped known stuck over = absurd stopped
     stops frames Waits (none, held, inside) known stuck over = λ stack done stands.
@@ -368,7 +394,8 @@ module _ (d : DescV) where
         }
     stops frames (Refused place) (bit, rest, is, here, inside) known stuck over = λ stack done stands.
         let within = within_limit stack (length done) (rw (← stands.place, ← stands.limit) inside) in
-        refuses_behind (state frames) [] bit rest stands is (omega (arith, here)) (nothing_goes d (moving known) known.empties stands.stack_is within) (stuck stack done stands bit rest is)
+        refuses_behind (state frames) [] bit rest stands is (omega (arith, here))
+        (nothing_goes d (moving known) known.empties stands.stack_is within) (stuck stack done stands bit rest is)
 
     -- frames and values that are the same go on in the same way
     pub GoesOn-along :
@@ -378,7 +405,9 @@ module _ (d : DescV) where
         → GoesOn d takes old (record { frames = frames; values = kept; pace = first; coming = coming }) before after stack done
     GoesOn-along {old} {frames} {others} {kept} {more} {first} {second} {after} {stack} {done} e f g on =
         let P : List Frame → Type 0 = λ l. GoesOn d takes old (record { frames = l; values = more; pace = second; coming = coming }) before after stack done in
-        let Q : List Number → Type 0 = λ l. GoesOn d takes old (record { frames = frames; values = l; pace = second; coming = coming }) before after stack done in
+        let Q : List Number → Type 0 =
+        λ l. GoesOn d takes old (record { frames = frames; values = l; pace = second; coming = coming })
+        before after stack done in
         let R : Pace → Type 0 = λ l. GoesOn d takes old (record { frames = frames; values = kept; pace = l; coming = coming }) before after stack done in
         subst R (sym g) (subst Q (sym f) (subst P (sym e) on))
 
@@ -414,16 +443,31 @@ module _ (d : DescV) where
         → coming.limit ≡ limit_in outer → AreOwed outer done coming.bits
         → Passes d coming.ended stack (none_left ∷ outer) done [] coming.bits []
         → GoesOn d takes (state (top ∷ frames)) (record { frames = frames; values = more; pace = pace; coming = coming }) before after stack done
-    leaves node known at told around place is round kept limit owed passes = leaves_until coming refl refl node known at told around place is round kept limit owed passes
+    leaves node known at told around place is round kept limit owed passes =
+        leaves_until coming refl refl node known at told around place is round kept limit owed passes
 
     -- a turn of a repetition begins
     pub begins_turn :
         {k i m n : ℕ} {frames : List Frame} {stack : List Left} {done : List ℕ}
         → m ≡ suc n → Known d → Stands d (state (frame.Times k i m ∷ frames)) stack done
-        → GoesOn d takes (state (frame.Times k i m ∷ frames)) (record { frames = frame.Begin i ∷ frame.Times k i n ∷ frames; values = values; pace = begun_by i pace; coming = coming }) before before stack done
+        → GoesOn d takes (state (frame.Times k i m ∷ frames))
+        (record {
+          frames = frame.Begin i ∷ frame.Times k i n ∷ frames;
+          values = values;
+          pace =
+              begun_by i pace;
+          coming = coming;
+        }) before before stack done
     begins_turn {k} {i} {m} {n} {frames} {stack} {done} some known stands =
         let t = turns_stand stands.shows in
-        let P : List Left → Type 0 = λ l. GoesOn d takes (state (frame.Times k i m ∷ frames)) (record { frames = frame.Begin i ∷ frame.Times k i n ∷ frames; values = values; pace = begun_by i pace; coming = coming }) before before l done in
+        let P : List Left → Type 0 = λ l. GoesOn d takes (state (frame.Times k i m ∷ frames))
+        (record {
+          frames = frame.Begin i ∷ frame.Times k i n ∷ frames;
+          values = values;
+          pace =
+              begun_by i pace;
+          coming = coming;
+        }) before before l done in
         let is : stack ≡ turns_left (suc n) i t.v ∷ t.outer = t.is ∙ ap (λ j. turns_left j i t.v ∷ t.outer) some in
         subst P (sym is)
         (still (begun_by i pace) stands.place (shows_begin refl t.kept (round_times t.repeats t.round))
@@ -444,7 +488,9 @@ module _ (d : DescV) where
         let P : List Left → Type 0 = λ l. GoesOn d takes (state (frame.Times k i m ∷ frames)) (state frames) before after l done in
         let is : stack ≡ turns_left 0 i t.v ∷ t.outer = t.is ∙ ap (λ j. turns_left j i t.v ∷ t.outer) none in
         subst P (sym is)
-        (leaves node known at told refl stands.place (turns_done known (subst (λ (l : List Left). IsStack d pace.next (fresh_at pace (length done)) l done) is stands.stack_is)) t.round
+        (leaves node known at told refl stands.place
+        (turns_done known (subst (λ (l : List Left). IsStack d pace.next (fresh_at pace (length done)) l done)
+        is stands.stack_is)) t.round
         (t.kept ∙ ap (λ v. numbers_of d v) t.repeats.seen ∙ sym (kept_unnamed done t.round (unnamed _ t.repeats.at refl)))
         (stands.limit ∙ ap (λ (l : List Left). limit_in l) is)
         (subst (λ (l : List Left). AreOwed l done coming.bits) is stands.owed)
@@ -452,13 +498,15 @@ module _ (d : DescV) where
 
     leaves_taken :
         {top : Frame} {k i : ℕ} {frames : List Frame} {after : S} {stack : List Left} {done : List ℕ}
-        (node : Node) → TakenStand k frames values stack → k ≡ i → around_of (top ∷ frames) ≡ k ∷ around_of frames → Known d → Stands d (state (top ∷ frames)) stack done
+        (node : Node) → TakenStand k frames values stack → k ≡ i → around_of (top ∷ frames) ≡ k ∷ around_of frames
+        → Known d → Stands d (state (top ∷ frames)) stack done
         → slice_get d.nodes i ≡ Some node → takes before Leave node after
         → GoesOn d takes (state (top ∷ frames)) (state frames) before after stack done
     leaves_taken {top} {frames = frames} {after} {stack} {done} node t same around known stands at told =
         let P : List Left → Type 0 = λ l. GoesOn d takes (state (top ∷ frames)) (state frames) before after l done in
         subst P (sym t.is)
-        (leaves node known at told (around ∙ ap (λ j. j ∷ around_of frames) same) stands.place (subst (λ (l : List Left). IsStack d pace.next (fresh_at pace (length done)) l done) t.is stands.stack_is)
+        (leaves node known at told (around ∙ ap (λ j. j ∷ around_of frames) same) stands.place
+        (subst (λ (l : List Left). IsStack d pace.next (fresh_at pace (length done)) l done) t.is stands.stack_is)
         (subst (λ j. Round d frames t.outer j) same t.round) (t.kept ∙ sym (t.plain done)) (stands.limit ∙ ap (λ (l : List Left). limit_in l) t.is)
         (subst (λ (l : List Left). AreOwed l done coming.bits) t.is stands.owed)
         (passes_of coming.ended (steps_none d (none_left ∷ t.outer) done coming.bits)))
@@ -478,10 +526,12 @@ module _ (d : DescV) where
         → later.bits ≡ coming.bits → later.ended ≡ coming.ended → later.place ≡ coming.place → later.limit ≡ limit
         → (node : Node) → coming.place ≡ start + count → Known d → Stands d (state (frame.Window k start count limit ∷ frames)) stack done
         → slice_get d.nodes k ≡ Some node → takes before Leave node after
-        → GoesOn d takes (state (frame.Window k start count limit ∷ frames)) (record { frames = frames; values = values; pace = pace; coming = later }) before after stack done
+        → GoesOn d takes (state (frame.Window k start count limit ∷ frames))
+        (record { frames = frames; values = values; pace = pace; coming = later }) before after stack done
     ends_window {k} {start} {count} {limit} {frames} {after} {stack} {done} later bits ended place limited node full known stands at told =
         let t = window_stands stands.shows in
-        let P : List Left → Type 0 = λ l. GoesOn d takes (state (frame.Window k start count limit ∷ frames)) (record { frames = frames; values = values; pace = pace; coming = later }) before after l done in
+        let P : List Left → Type 0 = λ l. GoesOn d takes (state (frame.Window k start count limit ∷ frames))
+        (record { frames = frames; values = values; pace = pace; coming = later }) before after l done in
         let here : length done ≡ start + count = sym stands.place ∙ full in
         let owed = subst (λ (l : List Left). AreOwed l done coming.bits) t.is stands.owed in
         subst P (sym t.is)
@@ -507,5 +557,6 @@ module _ (d : DescV) where
         let P : List Left → Type 0 = λ l. Rest d l done [] rest in
         window_unended (λ here. not (stands.place ∙ here)) (subst P t.is h)))
       where
-        window_unended : {end : ℕ} {outer : List Left} {done b : List ℕ} {rest : List Move} → ¬ (length done ≡ end) → ¬ Rest d (window_left end ∷ outer) done b rest
+        window_unended : {end : ℕ} {outer : List Left} {done b : List ℕ} {rest : List Move} → ¬ (length done ≡ end)
+            → ¬ Rest d (window_left end ∷ outer) done b rest
         window_unended not (rest_next b1 b2 first others cut made (completes_window none here leave) o) = not here

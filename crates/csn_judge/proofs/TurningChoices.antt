@@ -1,5 +1,7 @@
 -- Turns of the frame of a choice that is not decided.
-use Rattle.std.proofs.Common.{inl, inr, ◌≡◌, ℕ, zero, suc, ◌+◌, ◌-◌, ◌%◌, ◌<◌, ◌≤◌, ◌⊎◌, Bool, true, false, List, take, drop, [], ◌∷◌, ◌++◌, length, min, refl, sym, ◌∙◌, ap, subst, arith, append-nil, append_assoc, length-append, Some, slice_get}
+use Rattle.std.proofs.Common.{inl, inr, ◌≡◌, ℕ, zero, suc, ◌+◌, ◌-◌, ◌%◌, ◌<◌, ◌≤◌, ◌⊎◌, Bool, true, false, List}
+use Rattle.std.proofs.Common.{take, drop, [], ◌∷◌, ◌++◌, length, min, refl, sym, ◌∙◌, ap, subst, arith, append-nil}
+use Rattle.std.proofs.Common.{append_assoc, length-append, Some, slice_get}
 use Rattle.std.proofs.lemmas.List.{take_all, length-take-le, take-append-drop}
 use Rattle.csn_desc.specs.declared.moves.Move.{Move}
 use Rattle.csn_desc.specs.declared.node.Node.{Node}
@@ -61,7 +63,8 @@ module _ (d : DescV) where
       asked_choice t.parts t.at at.0.ready.reached
 
   -- the part of one begins: it is a node of the description, and there is room for the frame round it
-  pub alternative_room : {k part : ℕ} {frames : List Frame} {values : List Number} {stack : List Left} {done : List ℕ} (pace : Pace) (j : ℕ) (parts : List ℕ) → Known d
+  pub alternative_room : {k part : ℕ} {frames : List Frame} {values : List Number} {stack : List Left} {done : List ℕ}
+      (pace : Pace) (j : ℕ) (parts : List ℕ) → Known d
       → slice_get d.nodes k ≡ Some (Choice parts) → slice_get parts j ≡ Some part
       → Shows d (frame.Open k ∷ frames) values stack done → IsStack d pace.next (fresh_at pace (length done)) stack done
       → (part < length d.nodes) × (length frames < 63)
@@ -98,12 +101,29 @@ module _ (d : DescV) where
         }
 
     -- an alternative begins
-    alternative_begins : {k part : ℕ} {frames : List Frame} {stack : List Left} {done : List ℕ} (j : ℕ) (known : Known d) (at : AtChoice k frames stack done known)
+    alternative_begins : {k part : ℕ} {frames : List Frame} {stack : List Left} {done : List ℕ} (j : ℕ)
+        (known : Known d) (at : AtChoice k frames stack done known)
         → slice_get at.stands.parts j ≡ Some part
-        → Passes d coming.ended (choice_left at.stands.parts at.stands.v ∷ at.stands.outer) (all_left part at.stands.v ∷ none_left ∷ at.stands.outer) done [] coming.bits []
-        → GoesOn d takes (state d takes before values pace coming (frame.Open k ∷ frames)) (record { frames = frame.Begin part ∷ frame.Choice k ∷ frames; values = values; pace = begun_by part pace; coming = coming }) before before stack done
+        → Passes d coming.ended (choice_left at.stands.parts at.stands.v ∷ at.stands.outer)
+        (all_left part at.stands.v ∷ none_left ∷ at.stands.outer) done [] coming.bits []
+        → GoesOn d takes (state d takes before values pace coming (frame.Open k ∷ frames))
+        (record {
+          frames = frame.Begin part ∷ frame.Choice k ∷ frames;
+          values = values;
+          pace =
+              begun_by part pace;
+          coming = coming;
+        }) before before stack done
     alternative_begins {k} {part} {frames} {stack} {done} j known at here passes =
-        let P : List Left → Type 0 = λ l. GoesOn d takes (state d takes before values pace coming (frame.Open k ∷ frames)) (record { frames = frame.Begin part ∷ frame.Choice k ∷ frames; values = values; pace = begun_by part pace; coming = coming }) before before l done in
+        let P : List Left → Type 0 =
+        λ l. GoesOn d takes (state d takes before values pace coming (frame.Open k ∷ frames))
+        (record {
+          frames = frame.Begin part ∷ frame.Choice k ∷ frames;
+          values = values;
+          pace =
+              begun_by part pace;
+          coming = coming;
+        }) before before l done in
         let t = at.stands in
         let begun = alternative_begun d 12 known.description known.certified j t.at here at.here.begun in
         let rises = alternative_rises d 12 known.description known.certified j t.at here in
@@ -119,16 +139,29 @@ module _ (d : DescV) where
         → (later : List ℕ) → coming.bits ≡ (bit ∷ rest) ++ later → coming.place + length (bit ∷ rest) ≤ coming.limit
         → Picks d 12 k (coming.place % 8) (bit ∷ rest) false (Take j)
         → Known d → Stands d (state d takes before values pace coming (frame.Open k ∷ frames)) stack done
-        → GoesOn d takes (state d takes before values pace coming (frame.Open k ∷ frames)) (record { frames = frame.Begin part ∷ frame.Choice k ∷ frames; values = values; pace = begun_by part pace; coming = coming }) before before stack done
+        → GoesOn d takes (state d takes before values pace coming (frame.Open k ∷ frames))
+        (record {
+          frames = frame.Begin part ∷ frame.Choice k ∷ frames;
+          values = values;
+          pace =
+              begun_by part pace;
+          coming = coming;
+        }) before before stack done
     takes_some {k} {j} {part} {bit} {rest} {frames} {stack} {done} parts here_k here later e less picks known stands =
         let at = at_choice known stands in
         let t = at.stands in
         let same : parts ≡ t.parts = let a = t.at in cc in
         let here_part : slice_get t.parts j ≡ Some part = ap (λ l. slice_get l j) (sym same) ∙ here in
-        let found = decided d known t.at here_part at.here.begun (within_limit d t.outer (length done + length (bit ∷ rest)) (omega (arith, less, at.here.place, at.here.limit))) (subst (λ o. Picks d 12 k (o % 8) (bit ∷ rest) false (Take j)) at.here.place picks) in
+        let found = decided d known t.at here_part at.here.begun
+        (within_limit d t.outer (length done + length (bit ∷ rest))
+        (omega (arith, less, at.here.place, at.here.limit)))
+        (subst (λ o. Picks d 12 k (o % 8) (bit ∷ rest) false (Take j)) at.here.place picks) in
         let P : List ℕ → Type 0 = λ l. Steps d (choice_left t.parts t.v ∷ t.outer) (all_left part t.v ∷ none_left ∷ t.outer) done [] l [] in
         let cut : coming.bits ≡ found.word ++ (found.more ++ later) = e ∙ ap (λ l. l ++ later) found.is ∙ append_assoc found.word found.more later in
-        alternative_begins j known at here_part (passes_of coming.ended (subst P (sym cut) (take_decided d 12 known.description known.certified (moving d known) known found.how (found.more ++ later))))
+        alternative_begins j known at here_part
+        (passes_of coming.ended
+        (subst P (sym cut) (take_decided d 12 known.description known.certified (moving d known) known found.how
+        (found.more ++ later))))
 
     -- and where none may be taken
     pub takes_none :
@@ -137,7 +170,14 @@ module _ (d : DescV) where
         → IsGood coming → (coming.ended ≡ true) ⊎ (coming.place ≡ coming.limit)
         → Picks d 12 k (coming.place % 8) [] true (Take j)
         → Known d → Stands d (state d takes before values pace coming (frame.Open k ∷ frames)) stack done
-        → GoesOn d takes (state d takes before values pace coming (frame.Open k ∷ frames)) (record { frames = frame.Begin part ∷ frame.Choice k ∷ frames; values = values; pace = begun_by part pace; coming = coming }) before before stack done
+        → GoesOn d takes (state d takes before values pace coming (frame.Open k ∷ frames))
+        (record {
+          frames = frame.Begin part ∷ frame.Choice k ∷ frames;
+          values = values;
+          pace =
+              begun_by part pace;
+          coming = coming;
+        }) before before stack done
     takes_none {k} {j} {part} {frames} {stack} {done} parts here_k here good closed picks known stands =
         let at = at_choice known stands in
         let same : parts ≡ at.stands.parts = let a = at.stands.at in cc in
@@ -145,17 +185,22 @@ module _ (d : DescV) where
         alternative_begins j known at here_part (by at here_part closed)
       where
         by : (at : AtChoice k frames stack done known) → slice_get at.stands.parts j ≡ Some part → (coming.ended ≡ true) ⊎ (coming.place ≡ coming.limit)
-            → Passes d coming.ended (choice_left at.stands.parts at.stands.v ∷ at.stands.outer) (all_left part at.stands.v ∷ none_left ∷ at.stands.outer) done [] coming.bits []
+            → Passes d coming.ended (choice_left at.stands.parts at.stands.v ∷ at.stands.outer)
+            (all_left part at.stands.v ∷ none_left ∷ at.stands.outer) done [] coming.bits []
         by at here_part (inl over) =
             let t = at.stands in
             let P : Bool → Type 0 = λ e. Passes d e (choice_left t.parts t.v ∷ t.outer) (all_left part t.v ∷ none_left ∷ t.outer) done [] coming.bits [] in
             let Q : List ℕ → Type 0 = λ l. Passes d true (choice_left t.parts t.v ∷ t.outer) (all_left part t.v ∷ none_left ∷ t.outer) done [] l [] in
             subst P (sym over) (subst Q (sym (good.nothing over))
-            (null_last d 12 known.description known.certified (moving d known) known.takes k part j t.parts t.v t.outer done t.at here_part at.here.begun.ready (subst (λ o. Picks d 12 k (o % 8) [] true (Take j)) at.here.place picks)))
+            (null_last d 12 known.description known.certified (moving d known) known.takes k part j t.parts t.v
+            t.outer done t.at here_part at.here.begun.ready (subst (λ o. Picks d 12 k (o % 8) [] true (Take j))
+            at.here.place picks)))
         by at here_part (inr full) =
             let t = at.stands in
             passes_of coming.ended
-            (null_full d 12 known.description known.certified (moving d known) known.takes k part j t.parts t.v t.outer done t.at here_part at.here.begun.ready (subst (λ o. Picks d 12 k (o % 8) [] true (Take j)) at.here.place picks) coming.bits
+            (null_full d 12 known.description known.certified (moving d known) known.takes k part j t.parts t.v
+            t.outer done t.at here_part at.here.begun.ready (subst (λ o. Picks d 12 k (o % 8) [] true (Take j))
+            at.here.place picks) coming.bits
             (full_at t.outer done (sym at.here.place ∙ full ∙ at.here.limit) (omega (arith, good.fits, at.here.place)))
             (part_empty d j known t.at here_part at.here.begun))
 
@@ -165,7 +210,8 @@ module _ (d : DescV) where
     pub waits_open :
         {k : ℕ} {frames : List Frame} → IsGood coming → 0 < length coming.bits → coming.held ≡ length coming.bits
         → coming.place + length coming.bits ≤ coming.limit → Picks d 12 k (coming.place % 8) coming.bits false Wait → Known d
-        → Turns d takes (state d takes before values pace coming (frame.Open k ∷ frames)) (state d takes before values pace coming (frame.Open k ∷ frames)) before before Waits
+        → Turns d takes (state d takes before values pace coming (frame.Open k ∷ frames))
+        (state d takes before values pace coming (frame.Open k ∷ frames)) before before Waits
     waits_open {k} {frames} good some held less picks known = λ stack done stands.
         let at = at_choice known stands in
         let t = at.stands in
@@ -179,8 +225,11 @@ module _ (d : DescV) where
           on = stays_as d takes before (state d takes before values pace coming (frame.Open k ∷ frames)) stands;
           few = known.waits_few d 12 k (length done % 8) coming.bits false (omega arith) here;
           held = held;
-          followed = λ going. goes_from d (sym same) (subst P (sym t.is) (wait_goes d 12 known.description known.certified (moving d known) known at.how false here within));
-          held_ends = λ some rest h. wait_ends d 12 known.description known.certified (moving d known) known at.how some_bits here within (subst (λ l. Q l rest) t.is (rest_from d same h));
+          followed = λ going. goes_from d (sym same)
+              (subst P (sym t.is) (wait_goes d 12 known.description known.certified (moving d known)
+              known at.how false here within));
+          held_ends = λ some rest h. wait_ends d 12 known.description known.certified (moving d known)
+              known at.how some_bits here within (subst (λ l. Q l rest) t.is (rest_from d same h));
           over = λ ended. absurd (some_bits (good.nothing ended));
         }
 
@@ -218,47 +267,60 @@ module _ (d : DescV) where
         let at = at_choice known stands in
         let t = at.stands in
         let here = subst (λ o. Picks d 12 k (o % 8) (alike ++ bit ∷ []) false Refuse) at.here.place picks in
-        let within : Within t.outer (length done + length (alike ++ bit ∷ [])) = within_limit d t.outer _ (omega (arith, less, at.here.place, at.here.limit)) in
+        let within : Within t.outer (length done + length (alike ++ bit ∷ [])) =
+        within_limit d t.outer _ (omega (arith, less, at.here.place, at.here.limit)) in
         let P : List Left → List ℕ → Type 0 = λ l b. Goes d l done b in
         refuses_behind d takes before values pace coming new alike bit later stands e here_place
         (followed stack done stands at shorter)
         (λ g. refused d 12 known.description known.certified (moving d known) known at.how here within (subst (λ l. P l (alike ++ bit ∷ [])) t.is g))
       where
-        followed : (stack : List Left) (done : List ℕ) → Stands d (state d takes before values pace coming (frame.Open k ∷ frames)) stack done → AtChoice k frames stack done known
+        followed : (stack : List Left) (done : List ℕ)
+            → Stands d (state d takes before values pace coming (frame.Open k ∷ frames)) stack done
+            → AtChoice k frames stack done known
             → (alike ≡ []) ⊎ (Picks d 12 k (coming.place % 8) alike false answer × ¬ (answer ≡ Refuse)) → Goes d stack done alike
         followed stack done stands at (inl none) =
-            goes_along d (sym none) (nothing_goes d (moving d known) known.empties stands.stack_is (within_limit d stack (length done) (omega (arith, less, stands.place, stands.limit))))
+            goes_along d (sym none) (nothing_goes d (moving d known) known.empties stands.stack_is
+            (within_limit d stack (length done) (omega (arith, less, stands.place, stands.limit))))
         followed stack done stands at (inr other) = by alike refl other
           where
             by : (some : List ℕ) → alike ≡ some → Picks d 12 k (coming.place % 8) alike false answer × ¬ (answer ≡ Refuse) → Goes d stack done alike
-            by [] none other = goes_along d (sym none) (nothing_goes d (moving d known) known.empties stands.stack_is (within_limit d stack (length done) (omega (arith, less, stands.place, stands.limit))))
+            by [] none other = goes_along d (sym none) (nothing_goes d (moving d known) known.empties stands.stack_is
+                (within_limit d stack (length done) (omega (arith, less, stands.place, stands.limit))))
             by (b ∷ rest) is other =
                 let t = at.stands in
                 let waits = waits_or_refuses d alike bit (omega (arith, ap (λ l. length l) is)) t.at other.0 other.1 picks in
                 let here = subst (λ o. Picks d 12 k (o % 8) alike false Wait) at.here.place waits in
                 let P : List Left → Type 0 = λ l. Goes d l done alike in
-                subst P (sym t.is) (wait_goes d 12 known.description known.certified (moving d known) known at.how false here (within_limit d t.outer _ (omega (arith, less, at.here.place, at.here.limit, length-append alike (bit ∷ [])))))
+                subst P (sym t.is) (wait_goes d 12 known.description known.certified (moving d known)
+                known at.how false here
+                (within_limit d t.outer _
+                (omega (arith, less, at.here.place, at.here.limit, length-append alike (bit ∷ [])))))
 
     -- nothing is taken where it refuses without bits
     pub stops_open :
         {k : ℕ} (frames : List Frame) (turn : Turn) → IsStopped coming turn → IsGood coming → (coming.ended ≡ true) ⊎ (coming.place ≡ coming.limit)
         → Picks d 12 k (coming.place % 8) [] true Refuse → Known d
-        → Turns d takes (state d takes before values pace coming (frame.Open k ∷ frames)) (state d takes before values pace coming (frame.Open k ∷ frames)) before before turn
+        → Turns d takes (state d takes before values pace coming (frame.Open k ∷ frames))
+        (state d takes before values pace coming (frame.Open k ∷ frames)) before before turn
     stops_open {k} frames turn stopped good closed picks known =
         stops d takes before values pace coming (frame.Open k ∷ frames) turn stopped known
         (λ stack done stands bit rest is g.
         let at = at_choice known stands in
         let P : List Left → Type 0 = λ l. Goes d l done (bit ∷ []) in
         refused_empty d 12 known.description known.certified (moving d known) known at.how bit []
-        (subst (λ o. Picks d 12 k (o % 8) [] true Refuse) at.here.place picks) (full is closed at.stands.outer done at.here.limit at.here.place) (subst P at.stands.is g))
+        (subst (λ o. Picks d 12 k (o % 8) [] true Refuse) at.here.place picks)
+        (full is closed at.stands.outer done at.here.limit at.here.place) (subst P at.stands.is g))
         (λ stack done stands ended. inr (λ rest h.
         let at = at_choice known stands in
         let P : List Left → Type 0 = λ l. Rest d l done [] rest in
         never_ends d
-        (refused_never d 12 known.description known.certified (moving d known) known at.how (subst (λ o. Picks d 12 k (o % 8) [] true Refuse) at.here.place picks))
+        (refused_never d 12 known.description known.certified (moving d known) known at.how
+        (subst (λ o. Picks d 12 k (o % 8) [] true Refuse) at.here.place picks))
         (subst P at.stands.is h)))
       where
-        full : {bit : ℕ} {rest : List ℕ} → coming.bits ≡ bit ∷ rest → (coming.ended ≡ true) ⊎ (coming.place ≡ coming.limit) → (outer : List Left) (done : List ℕ) → coming.limit ≡ limit_in outer → coming.place ≡ length done → Full outer done
+        full : {bit : ℕ} {rest : List ℕ} → coming.bits ≡ bit ∷ rest → (coming.ended ≡ true)
+            ⊎ (coming.place ≡ coming.limit) → (outer : List Left) (done : List ℕ) → coming.limit ≡ limit_in outer
+            → coming.place ≡ length done → Full outer done
         full is (inl over) outer done limit place = absurd (omega (arith, ap (λ l. length l) (sym is ∙ good.nothing over)))
         full is (inr there) outer done limit place = full_at outer done (sym place ∙ there ∙ limit) (omega (arith, good.fits, place))
 
@@ -278,12 +340,15 @@ module _ (d : DescV) where
         let more = subst (λ l. Picks d 12 k (coming.place % 8) l false Refuse) (ap (λ n. take n coming.bits) next ∙ cut.more) picks in
         by cut room there more shorter
       where
-        by : (cut : IsCut count coming.bits) → coming.place + length (take count coming.bits ++ cut.bit ∷ []) ≤ coming.limit → place ≡ coming.place + length (take count coming.bits)
+        by : (cut : IsCut count coming.bits)
+            → coming.place + length (take count coming.bits ++ cut.bit ∷ []) ≤ coming.limit
+            → place ≡ coming.place + length (take count coming.bits)
             → Picks d 12 k (coming.place % 8) (take count coming.bits ++ cut.bit ∷ []) false Refuse
             → (count ≡ 0) ⊎ IsNotRefused d k (coming.place % 8) (take count coming.bits)
             → Turns d takes (state d takes before values pace coming (frame.Open k ∷ frames)) new before before (Refused place)
         by cut room there more (inl none) =
-            refuses_some {answer = Wait} new place (take count coming.bits) cut.bit cut.later cut.all room there more (inl (ap (λ n. take n coming.bits) none)) known
+            refuses_some {answer = Wait} new place (take count coming.bits) cut.bit cut.later cut.all room there more
+            (inl (ap (λ n. take n coming.bits) none)) known
         by cut room there more (inr other) =
             refuses_some {answer = other.0} new place (take count coming.bits) cut.bit cut.later cut.all room there more (inr (other.1, other.2)) known
 
@@ -297,11 +362,13 @@ module _ (d : DescV) where
         let same : others ≡ parts = cc in (none.part, ap (λ l. slice_get l j) (sym same) ∙ none.is_part)
     taken_part parts at (pick_again part many start) = absurd (cc)
 
-    pub never_leaves : {k o : ℕ} {held : List ℕ} {ended : Bool} (parts : List ℕ) → slice_get d.nodes k ≡ Some (Choice parts) → ¬ Picks d 12 k o held ended Leave
+    pub never_leaves : {k o : ℕ} {held : List ℕ} {ended : Bool} (parts : List ℕ)
+        → slice_get d.nodes k ≡ Some (Choice parts) → ¬ Picks d 12 k o held ended Leave
     never_leaves parts at (pick_leave part many never) = absurd (cc)
     never_leaves parts at (pick_ended part many over) = absurd (cc)
 
-    never_waits : {k o : ℕ} {held : List ℕ} {ended : Bool} (parts : List ℕ) → ended ≡ true → slice_get d.nodes k ≡ Some (Choice parts) → ¬ Picks d 12 k o held ended Wait
+    never_waits : {k o : ℕ} {held : List ℕ} {ended : Bool} (parts : List ℕ)
+        → ended ≡ true → slice_get d.nodes k ≡ Some (Choice parts) → ¬ Picks d 12 k o held ended Wait
     never_waits parts over at (pick_wait others here never none going begins) = absurd (cc)
     never_waits parts over at (pick_bit part many going) = absurd (cc)
 
@@ -313,7 +380,14 @@ module _ (d : DescV) where
         → (count ≡ 0 → Picks d 12 k (coming.place % 8) [] true (Take j))
         → (0 < count → Picks d 12 k (coming.place % 8) (take count coming.bits) false (Take j))
         → Known d → Stands d (state d takes before values pace coming (frame.Open k ∷ frames)) stack done
-        → GoesOn d takes (state d takes before values pace coming (frame.Open k ∷ frames)) (record { frames = frame.Begin part ∷ frame.Choice k ∷ frames; values = values; pace = begun_by part pace; coming = coming }) before before stack done
+        → GoesOn d takes (state d takes before values pace coming (frame.Open k ∷ frames))
+        (record {
+          frames = frame.Begin part ∷ frame.Choice k ∷ frames;
+          values = values;
+          pace =
+              begun_by part pace;
+          coming = coming;
+        }) before before stack done
     takes_open zero parts at here good is closed none some known stands = takes_none parts at here good (closed refl) (none refl) known stands
     takes_open {k = k} {j = j} (suc count) parts at here good is closed none some known stands =
         let size : length (take (suc count) coming.bits) ≡ suc count = length-take-le (suc count) coming.bits (omega (arith, is)) in
@@ -329,7 +403,8 @@ module _ (d : DescV) where
         → min 12 (length coming.bits) ≤ coming.held → coming.held ≤ length coming.bits → ¬ (count < length coming.bits)
         → (count ≡ 0 → Picks d 12 k (coming.place % 8) [] true Wait)
         → (0 < count → Picks d 12 k (coming.place % 8) (take count coming.bits) false Wait) → Known d
-        → Turns d takes (state d takes before values pace coming (frame.Open k ∷ frames)) (state d takes before values pace coming (frame.Open k ∷ frames)) before before Waits
+        → Turns d takes (state d takes before values pace coming (frame.Open k ∷ frames))
+        (state d takes before values pace coming (frame.Open k ∷ frames)) before before Waits
     waits_with_all zero parts at good is held within last none some known = absurd (never_waits parts refl at (none refl))
     waits_with_all {k = k} (suc count) parts at good is held within last none some known =
         let all : take (suc count) coming.bits ≡ coming.bits = take_all (suc count) coming.bits (omega (arith, last)) in
@@ -348,7 +423,8 @@ module _ (d : DescV) where
         let cut = cut_behind (suc count) coming.bits more in
         let waits = some (omega arith) in
         let few = known.waits_few d 12 k (coming.place % 8) (take (suc count) coming.bits) false (omega arith) waits in
-        waits_full new place (take (suc count) coming.bits) cut.bit cut.later good (omega (arith, cut.few)) cut.all (omega (arith, cut.few, is, few, more, good.inside)) (omega (arith, there, cut.few)) waits known
+        waits_full new place (take (suc count) coming.bits) cut.bit cut.later good (omega (arith, cut.few)) cut.all
+        (omega (arith, cut.few, is, few, more, good.inside)) (omega (arith, there, cut.few)) waits known
 
     pub taken_of : {k j : ℕ} (count : ℕ) (parts : List ℕ) → slice_get d.nodes k ≡ Some (Choice parts)
         → (count ≡ 0 → Picks d 12 k (coming.place % 8) [] true (Take j))

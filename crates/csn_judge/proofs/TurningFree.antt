@@ -1,5 +1,6 @@
 -- Turns of the frame of a free repetition.
-use Rattle.std.proofs.Common.{◌≡◌, ℕ, zero, suc, ◌-◌, ◌%◌, ◌<◌, ◌≤◌, ◌⊎◌, true, false, List, take, [], ◌∷◌, length, min, refl, sym, ◌∙◌, ap, subst, arith, Option, Some, slice_get}
+use Rattle.std.proofs.Common.{◌≡◌, ℕ, zero, suc, ◌-◌, ◌%◌, ◌<◌, ◌≤◌, ◌⊎◌, true, false, List, take, [], ◌∷◌, length}
+use Rattle.std.proofs.Common.{min, refl, sym, ◌∙◌, ap, subst, arith, Option, Some, slice_get}
 use Rattle.csn_desc.specs.declared.moves.Move.{Move}
 use Rattle.csn_desc.specs.declared.moves.Move.TheVariants.{Leave}
 use Rattle.csn_desc.specs.declared.node.Node.{Node}
@@ -75,7 +76,8 @@ module _ (d : DescV) where
       let P : ℕ → Type 0 = λ n. InStart d n o bit in
       subst P same start
 
-  starts_not : {k i o bit : ℕ} {answer : Pick} → slice_get d.nodes k ≡ Some (Many i) → ((j : ℕ) → ¬ (answer ≡ Take j)) → Picks d 12 k o (bit ∷ []) false answer → ¬ InStart d i o bit
+  starts_not : {k i o bit : ℕ} {answer : Pick} → slice_get d.nodes k ≡ Some (Many i) → ((j : ℕ) → ¬ (answer ≡ Take j))
+      → Picks d 12 k o (bit ∷ []) false answer → ¬ InStart d i o bit
   starts_not at not (pick_key parts choice key) = absurd (cc)
   starts_not at not (pick_none parts choice none takes) = absurd (cc)
   starts_not at not (pick_wait parts choice none other going begins) = absurd (cc)
@@ -86,12 +88,24 @@ module _ (d : DescV) where
       let P : ℕ → Type 0 = λ n. ¬ InStart d n o bit in
       subst P same never
 
-  repeats_at : {i : ℕ} {v : Values} {outer : List Left} {done : List ℕ} (pace : Pace) (bit : ℕ) (known : Known d) → Begun d (fresh_at (begun_by i pace) (length done)) i v (free_left i v ∷ outer) done
+  repeats_at : {i : ℕ} {v : Values} {outer : List Left} {done : List ℕ} (pace : Pace) (bit : ℕ) (known : Known d)
+      → Begun d (fresh_at (begun_by i pace) (length done)) i v (free_left i v ∷ outer) done
       → IsStack d pace.next (fresh_at pace (length done)) (free_left i v ∷ outer) done → suc (length done) ≤ limit_in outer
       → (k from : ℕ) × Repeats d 12 known.description known.certified (moving d known) known k i from v outer done bit
   repeats_at {i} {v} {outer} {done} pace bit known begun (stack_node k from w bits ready (of_free at same so_far order up turned) inside) room =
-      let P : Values → Type 0 = λ u. Repeats d 12 known.description known.certified (moving d known) known k i from u outer done bit in
-      (k, from, subst P (sym same) (record { at = at; ready = ready; reached = begun.ready.reached; fresh = _; inner = inside; within = within_limit d outer (suc (length done)) room }))
+      let P : Values → Type 0 = λ u. Repeats d 12 known.description known.certified (moving d known) known k i from u outer done bit in (
+        k,
+        from,
+        subst P (sym same) (record {
+          at = at;
+          ready = ready;
+          reached = begun.ready.reached;
+          fresh = _;
+          inner =
+              inside;
+          within = within_limit d outer (suc (length done)) room;
+        }),
+      )
 
   again_steps : {i : ℕ} {v : Values} {outer : List Left} {done : List ℕ} (pace : Pace) (bit : ℕ) (more : List ℕ) → Known d
       → IsStack d pace.next (fresh_at pace (length done)) (free_left i v ∷ outer) done → suc (length done) ≤ limit_in outer
@@ -134,17 +148,33 @@ module _ (d : DescV) where
         → coming.bits ≡ bit ∷ more → coming.place < coming.limit → slice_get d.nodes k ≡ Some (Many i)
         → InStart d i (coming.place % 8) bit
         → Known d → Stands d (state d takes before values pace coming (frame.Many k i ∷ frames)) stack done
-        → GoesOn d takes (state d takes before values pace coming (frame.Many k i ∷ frames)) (record { frames = frame.Begin i ∷ frame.Many k i ∷ frames; values = values; pace = begun_by i pace; coming = coming }) before before stack done
+        → GoesOn d takes (state d takes before values pace coming (frame.Many k i ∷ frames))
+        (record {
+          frames = frame.Begin i ∷ frame.Many k i ∷ frames;
+          values = values;
+          pace =
+              begun_by i pace;
+          coming = coming;
+        }) before before stack done
     begins_free {k} {i} {frames} {stack} {done} bit more e room at start known stands =
         let t = free_stands stands.shows in
-        let P : List Left → Type 0 = λ l. GoesOn d takes (state d takes before values pace coming (frame.Many k i ∷ frames)) (record { frames = frame.Begin i ∷ frame.Many k i ∷ frames; values = values; pace = begun_by i pace; coming = coming }) before before l done in
+        let P : List Left → Type 0 =
+        λ l. GoesOn d takes (state d takes before values pace coming (frame.Many k i ∷ frames))
+        (record {
+          frames = frame.Begin i ∷ frame.Many k i ∷ frames;
+          values = values;
+          pace =
+              begun_by i pace;
+          coming = coming;
+        }) before before l done in
         let is = subst (λ (l : List Left). IsStack d pace.next (fresh_at pace (length done)) l done) t.is stands.stack_is in
         let limit = stands.limit ∙ ap (λ (l : List Left). limit_in l) t.is in
         subst P (sym t.is)
         (still d takes before values pace coming (begun_by i pace) stands.place (shows_begin refl t.kept (round_many t.repeats t.round))
         (of_begun d (free_begins pace known is)) limit
         (subst (λ (l : List Left). AreOwed l done coming.bits) t.is stands.owed)
-        (passes_of coming.ended (again_bits coming.bits known is (omega (arith, room, limit, stands.place)) bit more e (subst (λ o. InStart d i (o % 8) bit) stands.place start)))
+        (passes_of coming.ended (again_bits coming.bits known is (omega (arith, room, limit, stands.place)) bit more e
+        (subst (λ o. InStart d i (o % 8) bit) stands.place start)))
         (tells_none refl refl))
 
     -- it is left where it passes with no bits
@@ -152,10 +182,15 @@ module _ (d : DescV) where
         {k i : ℕ} {frames : List Frame} {after : S} {stack : List Left} {done : List ℕ} (node : Node)
         → slice_get d.nodes k ≡ Some node → takes before Leave node after
         → Known d → Stands d (state d takes before values pace coming (frame.Many k i ∷ frames)) stack done → (t : FreeStands k i frames values stack)
-        → (IsStack d pace.next (fresh_at pace (length done)) (free_left i t.v ∷ t.outer) done → coming.limit ≡ limit_in t.outer → Passes d coming.ended (free_left i t.v ∷ t.outer) (none_left ∷ t.outer) done [] coming.bits [])
-        → GoesOn d takes (state d takes before values pace coming (frame.Many k i ∷ frames)) (state d takes before values pace coming frames) before after stack done
+        → (IsStack d pace.next (fresh_at pace (length done)) (free_left i t.v ∷ t.outer)
+        done → coming.limit ≡ limit_in t.outer → Passes d coming.ended (free_left i t.v ∷ t.outer)
+        (none_left ∷ t.outer) done [] coming.bits [])
+        → GoesOn d takes (state d takes before values pace coming (frame.Many k i ∷ frames))
+        (state d takes before values pace coming frames) before after stack done
     left_free {k} {i} {frames} {after} {stack} {done} node at told known stands t passes =
-        let P : List Left → Type 0 = λ l. GoesOn d takes (state d takes before values pace coming (frame.Many k i ∷ frames)) (state d takes before values pace coming frames) before after l done in
+        let P : List Left → Type 0 =
+        λ l. GoesOn d takes (state d takes before values pace coming (frame.Many k i ∷ frames))
+        (state d takes before values pace coming frames) before after l done in
         let is = subst (λ (l : List Left). IsStack d pace.next (fresh_at pace (length done)) l done) t.is stands.stack_is in
         let limit = stands.limit ∙ ap (λ (l : List Left). limit_in l) t.is in
         subst P (sym t.is)
@@ -170,10 +205,13 @@ module _ (d : DescV) where
         → coming.bits ≡ bit ∷ more → coming.place < coming.limit → ¬ InStart d i (coming.place % 8) bit
         → slice_get d.nodes k ≡ Some node → takes before Leave node after
         → Known d → Stands d (state d takes before values pace coming (frame.Many k i ∷ frames)) stack done
-        → GoesOn d takes (state d takes before values pace coming (frame.Many k i ∷ frames)) (state d takes before values pace coming frames) before after stack done
+        → GoesOn d takes (state d takes before values pace coming (frame.Many k i ∷ frames))
+        (state d takes before values pace coming frames) before after stack done
     leaves_free {i = i} {done = done} bit more node e room never at told known stands =
         left_free node at told known stands (free_stands stands.shows)
-        (λ is limit. passes_of coming.ended (leave_bits coming.bits known is (omega (arith, room, limit, stands.place)) bit more e (subst (λ o. ¬ InStart d i (o % 8) bit) stands.place never)))
+        (λ is limit. passes_of coming.ended
+        (leave_bits coming.bits known is (omega (arith, room, limit, stands.place)) bit more e
+        (subst (λ o. ¬ InStart d i (o % 8) bit) stands.place never)))
 
     -- and where no bit may be taken
     pub ends_free :
@@ -181,7 +219,8 @@ module _ (d : DescV) where
         → IsGood coming → (coming.ended ≡ true) ⊎ (coming.place ≡ coming.limit)
         → slice_get d.nodes k ≡ Some node → takes before Leave node after
         → Known d → Stands d (state d takes before values pace coming (frame.Many k i ∷ frames)) stack done
-        → GoesOn d takes (state d takes before values pace coming (frame.Many k i ∷ frames)) (state d takes before values pace coming frames) before after stack done
+        → GoesOn d takes (state d takes before values pace coming (frame.Many k i ∷ frames))
+        (state d takes before values pace coming frames) before after stack done
     ends_free {i = i} {done = done} node good closed at told known stands =
         let t = free_stands stands.shows in
         left_free node at told known stands t (λ is limit. closed_passes d good closed stands.place limit (free_ends d i t.v done))
@@ -192,7 +231,8 @@ module _ (d : DescV) where
     no_turn at (pick_key parts choice key) = absurd (cc)
     no_turn at (pick_none parts choice none takes) = absurd (cc)
 
-    one_bit : {k o count : ℕ} {answer : Pick} (bits : List ℕ) → count ≡ 1 → (bit : ℕ) (more : List ℕ) → bits ≡ bit ∷ more → Picks d 12 k o (take count bits) false answer → Picks d 12 k o (bit ∷ []) false answer
+    one_bit : {k o count : ℕ} {answer : Pick} (bits : List ℕ) → count ≡ 1 → (bit : ℕ) (more : List ℕ)
+        → bits ≡ bit ∷ more → Picks d 12 k o (take count bits) false answer → Picks d 12 k o (bit ∷ []) false answer
     one_bit {k} {o} {count} {answer} bits one bit more e picks =
         let P : List ℕ → Type 0 = λ l. Picks d 12 k o l false answer in
         subst P (ap (λ n. take n bits) one ∙ ap (λ l. take 1 l) e) picks
@@ -203,7 +243,14 @@ module _ (d : DescV) where
         → (count ≡ 0 → Picks d 12 k (coming.place % 8) [] true (Take j))
         → (0 < count → Picks d 12 k (coming.place % 8) (take count coming.bits) false (Take j))
         → Known d → Stands d (state d takes before values pace coming (frame.Many k i ∷ frames)) stack done
-        → GoesOn d takes (state d takes before values pace coming (frame.Many k i ∷ frames)) (record { frames = frame.Begin i ∷ frame.Many k i ∷ frames; values = values; pace = begun_by i pace; coming = coming }) before before stack done
+        → GoesOn d takes (state d takes before values pace coming (frame.Many k i ∷ frames))
+        (record {
+          frames = frame.Begin i ∷ frame.Many k i ∷ frames;
+          values = values;
+          pace =
+              begun_by i pace;
+          coming = coming;
+        }) before before stack done
     free_takes {count = zero} is none some known stands =
         let t = free_stands stands.shows in absurd (no_turn t.repeats.at (none refl))
     free_takes {count = suc count} is none some known stands =
@@ -220,10 +267,12 @@ module _ (d : DescV) where
         → ((j : ℕ) → ¬ (answer ≡ Take j))
         → slice_get d.nodes k ≡ Some node → takes before Leave node after
         → Known d → Stands d (state d takes before values pace coming (frame.Many k i ∷ frames)) stack done
-        → GoesOn d takes (state d takes before values pace coming (frame.Many k i ∷ frames)) (state d takes before values pace coming frames) before after stack done
+        → GoesOn d takes (state d takes before values pace coming (frame.Many k i ∷ frames))
+        (state d takes before values pace coming frames) before after stack done
     free_leaves {count = zero} node good is closed some not at told known stands = ends_free node good (closed refl) at told known stands
     free_leaves {count = suc count} node good is closed some not at told known stands =
         let t = free_stands stands.shows in
         let found = first_of coming.bits (omega (arith, is)) in
         leaves_free found.0 found.1 node found.2 (omega (arith, is))
-        (starts_not t.repeats.at not (one_bit {count = suc count} coming.bits (omega (arith, is)) found.0 found.1 found.2 (some (omega arith)))) at told known stands
+        (starts_not t.repeats.at not (one_bit {count = suc count} coming.bits (omega (arith, is))
+        found.0 found.1 found.2 (some (omega arith)))) at told known stands

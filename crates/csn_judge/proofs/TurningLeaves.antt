@@ -1,5 +1,7 @@
 -- Turns of the frames of leaves.
-use Rattle.std.proofs.Common.{inl, inr, ◌≡◌, ◌⊎◌, ℕ, ◌+◌, ◌<◌, ◌≤◌, nat_lt, Bool, true, false, if◌then◌else◌, List, [], ◌∷◌, ◌++◌, length, map, refl, sym, ◌∙◌, ap, subst, arith, append-nil, length-append, Option, Some, None, slice_get}
+use Rattle.std.proofs.Common.{inl, inr, ◌≡◌, ◌⊎◌, ℕ, ◌+◌, ◌<◌, ◌≤◌, nat_lt, Bool, true, false, if◌then◌else◌, List}
+use Rattle.std.proofs.Common.{[], ◌∷◌, ◌++◌, length, map, refl, sym, ◌∙◌, ap, subst, arith, append-nil, length-append}
+use Rattle.std.proofs.Common.{Option, Some, None, slice_get}
 use Rattle.std.proofs.lemmas.Bool.{ltb-true}
 use Rattle.std.proofs.lemmas.Option.{slice_get_within}
 use Rattle.csn_desc.specs.declared.moves.Move.{Move}
@@ -53,7 +55,8 @@ not_less a b less = by (nat_lt a b) refl
 module _ (d : DescV) where
   -- ---- what is told of bits
 
-  pub tells_bits : {S : Type 0} (takes : S → Move → Node → S → Type 0) (node : Node) (i : ℕ) (around : List ℕ) (bits : List ℕ) {rest : List Move} {others : List ℕ} {s t u : S}
+  pub tells_bits : {S : Type 0} (takes : S → Move → Node → S → Type 0) (node : Node) (i : ℕ) (around : List ℕ)
+      (bits : List ℕ) {rest : List Move} {others : List ℕ} {s t u : S}
       → slice_get d.nodes i ≡ Some node → BitsTold takes node bits s t → Tells d takes (i ∷ around) rest others t u
       → Tells d takes (i ∷ around) (map Bit bits ++ rest) others s u
   tells_bits takes node i around [] {rest} {others} {s} {t} {u} at same later = subst (λ x. Tells d takes (i ∷ around) rest others x u) same later
@@ -96,7 +99,8 @@ module _ (d : DescV) where
   leaf_limit outer (shows_field unit count at) = refl
   leaf_limit outer (shows_rest at) = refl
 
-  leaf_owes : {i : ℕ} {form : Leaf} {left : Left} (outer : List Left) (done ahead : List ℕ) → LeafShows d i form left → AreOwed (left ∷ outer) done ahead ≡ AreOwed outer done ahead
+  leaf_owes : {i : ℕ} {form : Leaf} {left : Left} (outer : List Left) (done ahead : List ℕ)
+      → LeafShows d i form left → AreOwed (left ∷ outer) done ahead ≡ AreOwed outer done ahead
   leaf_owes outer done ahead (shows_lits run at less is) = refl
   leaf_owes outer done ahead (shows_spare at) = refl
   leaf_owes outer done ahead (shows_pad at) = refl
@@ -111,7 +115,8 @@ module _ (d : DescV) where
   leaf_plain (shows_field unit count at) = unnamed d _ at refl
   leaf_plain (shows_rest at) = unnamed d _ at refl
 
-  module _ {S : Type 0} (takes : S → Move → Node → S → Type 0) (before after : S) (values : List Number) (pace : Pace) (old new : Coming) (i : ℕ) (frames : List Frame) (node : Node) where
+  module _ {S : Type 0} (takes : S → Move → Node → S → Type 0) (before after : S) (values : List Number) (pace : Pace)
+      (old new : Coming) (i : ℕ) (frames : List Frame) (node : Node) where
     abbrev pub leaf_state : Leaf → StateV
     leaf_state form = record { frames = frame.Leaf i form ∷ frames; values = values; pace = pace; coming = old }
 
@@ -132,7 +137,13 @@ module _ (d : DescV) where
         → (took ≡ false → new.place ≤ old.place)
         → Stands d (leaf_state form) stack done → (t : LeafStands i form frames values stack)
         → Keeps d pace.next (fresh_at pace (length done)) takes node old new before after t.left t.outer done i other
-        → GoesOn d takes (leaf_state form) (record { frames = frame.Leaf i other ∷ frames; values = values; pace = paced took pace; coming = new }) before after stack done
+        → GoesOn d takes (leaf_state form) (record {
+          frames = frame.Leaf i other ∷ frames;
+          values = values;
+          pace =
+              paced took pace;
+          coming = new;
+        }) before after stack done
     leaf_goes_on {form} {other} {stack} {done} took at known still stands t k =
         let on = k.on in
         let P : List Left → Type 0 = λ l. Passes d old.ended l (k.now ∷ t.outer) done on.taken new.bits (map Bit on.taken) in
@@ -219,11 +230,15 @@ module _ (d : DescV) where
     pub stops : (coming.bits ≡ []) ⊎ (coming.place ≡ coming.limit)
     pub wants : (coming.ended ≡ true) ⊎ (coming.place ≡ coming.limit) → (moves : List Move) → ¬ Completes d left done [] moves
 
-  short_unended : {stack : List Left} {done : List ℕ} {coming : Coming} {rest : List Move} → (t : IsShort stack done coming) → coming.ended ≡ true → ¬ Rest d stack done [] rest
-  short_unended {done = done} {rest = rest} t over h = let P : List Left → Type 0 = λ l. Rest d l done [] rest in never_ends d (t.wants (inl over)) (subst P t.is h)
+  short_unended : {stack : List Left} {done : List ℕ} {coming : Coming} {rest : List Move}
+      → (t : IsShort stack done coming) → coming.ended ≡ true → ¬ Rest d stack done [] rest
+  short_unended {done = done} {rest = rest} t over h = let P : List Left → Type 0 = λ l. Rest d l done [] rest in
+      never_ends d (t.wants (inl over)) (subst P t.is h)
 
-  short_stuck : {stack : List Left} {done : List ℕ} {coming : Coming} (bit : ℕ) (t : IsShort stack done coming) → Full t.outer done → coming.place ≡ coming.limit → ¬ Goes d stack done (bit ∷ [])
-  short_stuck {done = done} bit t full closed g = let P : List Left → Type 0 = λ l. Goes d l done (bit ∷ []) in stuck d bit [] full (t.wants (inr closed)) (subst P t.is g)
+  short_stuck : {stack : List Left} {done : List ℕ} {coming : Coming} (bit : ℕ) (t : IsShort stack done coming)
+      → Full t.outer done → coming.place ≡ coming.limit → ¬ Goes d stack done (bit ∷ [])
+  short_stuck {done = done} bit t full closed g = let P : List Left → Type 0 = λ l. Goes d l done (bit ∷ []) in
+      stuck d bit [] full (t.wants (inr closed)) (subst P t.is g)
 
   module _ {S : Type 0} (takes : S → Move → Node → S → Type 0) (before : S) (values : List Number) (pace : Pace) (coming : Coming) (frames : List Frame) where
     abbrev stopped_state : StateV
@@ -244,7 +259,8 @@ module _ (d : DescV) where
         at_limit (inl none) is = absurd (cc)
         at_limit (inr full) is = full
 
-  module _ {S : Type 0} (takes : S → Move → Node → S → Type 0) (before : S) (values : List Number) (pace : Pace) (coming : Coming) (i : ℕ) (frames : List Frame) where
+  module _ {S : Type 0} (takes : S → Move → Node → S → Type 0) (before : S) (values : List Number) (pace : Pace)
+      (coming : Coming) (i : ℕ) (frames : List Frame) where
     abbrev leaf_here : Leaf → StateV
     leaf_here form = record { frames = frame.Leaf i form ∷ frames; values = values; pace = pace; coming = coming }
 
@@ -273,7 +289,8 @@ module _ (d : DescV) where
   may_be_left {node = node} at (shows_field unit count look) = let e : node ≡ Field unit count = cc in may_field e
   may_be_left {node = node} at (shows_rest look) = let e : node ≡ kind.Rest = cc in may_rest e
 
-  module _ {S : Type 0} (takes : S → Move → Node → S → Type 0) (before : S) (values : List Number) (pace : Pace) (old new : Coming) (i : ℕ) (frames : List Frame) (node : Node) where
+  module _ {S : Type 0} (takes : S → Move → Node → S → Type 0) (before : S) (values : List Number) (pace : Pace)
+      (old new : Coming) (i : ℕ) (frames : List Frame) (node : Node) where
     abbrev leaf_from : Leaf → StateV
     leaf_from form = record { frames = frame.Leaf i form ∷ frames; values = values; pace = pace; coming = old }
 
@@ -284,57 +301,76 @@ module _ (d : DescV) where
         → GoesOn d takes (leaf_from form) (record { frames = frames; values = values; pace = next; coming = new }) before after stack done
     turns_all {form} {next} told after took at known paced_by still reads leave stack done stands =
         let t = leaf_stands stands.shows in
-        let P : Pace → Type 0 = λ p. GoesOn d takes (leaf_from form) (record { frames = frames; values = values; pace = p; coming = new }) before after stack done in
+        let P : Pace → Type 0 = λ p. GoesOn d takes (leaf_from form)
+        (record { frames = frames; values = values; pace = p; coming = new }) before after stack done in
         subst P (sym paced_by)
         (leaf_ends takes before after values pace old new i frames node told took at known still stands t
         (reads pace.next (fresh_at pace (length done)) i t.left t.outer done known (at_leaf takes before told values pace old new i frames node at stands t))
         leave)
 
     -- some of them
-    pub turns_some : {form other : Leaf} {next : Pace} {others : List Frame} (after : S) (took : Bool) → slice_get d.nodes i ≡ Some node → Known d → next ≡ paced took pace
+    pub turns_some : {form other : Leaf} {next : Pace} {others : List Frame} (after : S) (took : Bool)
+        → slice_get d.nodes i ≡ Some node → Known d → next ≡ paced took pace
         → (took ≡ false → new.place ≤ old.place) → others ≡ frame.Leaf i other ∷ frames → ReadsLeaf d takes form node old new before after (read.Some other)
         → (stack : List Left) (done : List ℕ) → Stands d (leaf_from form) stack done
         → GoesOn d takes (leaf_from form) (record { frames = others; values = values; pace = next; coming = new }) before after stack done
     turns_some {form} {other} {next} {others} after took at known paced_by still put reads stack done stands =
         let t = leaf_stands stands.shows in
-        let P : Pace → Type 0 = λ p. GoesOn d takes (leaf_from form) (record { frames = others; values = values; pace = p; coming = new }) before after stack done in
-        let Q : List Frame → Type 0 = λ l. GoesOn d takes (leaf_from form) (record { frames = l; values = values; pace = paced took pace; coming = new }) before after stack done in
+        let P : Pace → Type 0 = λ p. GoesOn d takes (leaf_from form)
+        (record { frames = others; values = values; pace = p; coming = new }) before after stack done in
+        let Q : List Frame → Type 0 = λ l. GoesOn d takes (leaf_from form)
+        (record { frames = l; values = values; pace = paced took pace; coming = new }) before after stack done in
         subst P (sym paced_by) (subst Q (sym put)
         (leaf_goes_on takes before after values pace old new i frames node took at known still stands t
-        (reads pace.next (fresh_at pace (length done)) i t.left t.outer done known (at_leaf takes before after values pace old new i frames node at stands t))))
+        (reads pace.next (fresh_at pace (length done)) i t.left t.outer done known
+        (at_leaf takes before after values pace old new i frames node at stands t))))
 
     -- none
     turns_none : {form other : Leaf} (after : S) (turn : Turn) → slice_get d.nodes i ≡ Some node → Known d → new.place ≤ old.place
-        → new.place + length new.bits < 4294967295 → (new.ended ≡ true → new.bits ≡ []) → IsStopped new turn → ReadsLeaf d takes form node old new before after (read.Some other)
-        → Turns d takes (leaf_from form) (record { frames = frame.Leaf i other ∷ frames; values = values; pace = paced false pace; coming = new }) before after turn
+        → new.place + length new.bits < 4294967295 → (new.ended ≡ true → new.bits ≡ [])
+        → IsStopped new turn → ReadsLeaf d takes form node old new before after (read.Some other)
+        → Turns d takes (leaf_from form) (record {
+          frames = frame.Leaf i other ∷ frames;
+          values = values;
+          pace =
+              paced false pace;
+          coming = new;
+        }) before after turn
     turns_none after Moved at known still small quiet stopped reads = absurd stopped
     turns_none {form} {other} after Waits at known still small quiet stopped reads = λ stack done stands.
         let t = leaf_stands stands.shows in
-        let k = reads pace.next (fresh_at pace (length done)) i t.left t.outer done known (at_leaf takes before after values pace old new i frames node at stands t) in
+        let k = reads pace.next (fresh_at pace (length done)) i t.left t.outer done known
+        (at_leaf takes before after values pace old new i frames node at stands t) in
         let on = leaf_goes_on takes before after values pace old new i frames node false at known (λ e. still) stands t k in
-        waits_then d takes on (leaf_stops takes after values (paced false pace) new i frames Waits stopped known small (k.stays (omega (arith, still, k.on.place))) on.now (done ++ on.taken) on.stands)
+        waits_then d takes on (leaf_stops takes after values (paced false pace) new i frames Waits stopped known small
+        (k.stays (omega (arith, still, k.on.place))) on.now (done ++ on.taken) on.stands)
     turns_none {form} {other} after (Refused place) at known still small quiet stopped reads = λ stack done stands.
         let t = leaf_stands stands.shows in
-        let k = reads pace.next (fresh_at pace (length done)) i t.left t.outer done known (at_leaf takes before after values pace old new i frames node at stands t) in
+        let k = reads pace.next (fresh_at pace (length done)) i t.left t.outer done known
+        (at_leaf takes before after values pace old new i frames node at stands t) in
         let on = leaf_goes_on takes before after values pace old new i frames node false at known (λ e. still) stands t k in
         refuses_then d takes on (going old.ended (λ e. quiet (on.ended ∙ e)) stopped.2)
-        (leaf_stops takes after values (paced false pace) new i frames (Refused place) stopped known small (k.stays (omega (arith, still, k.on.place))) on.now (done ++ on.taken) on.stands)
+        (leaf_stops takes after values (paced false pace) new i frames (Refused place) stopped known small
+        (k.stays (omega (arith, still, k.on.place))) on.now (done ++ on.taken) on.stands)
       where
         going : {bit : ℕ} {rest : List ℕ} (e : Bool) → (e ≡ true → new.bits ≡ []) → new.bits ≡ bit ∷ rest → e ≡ false
         going true none is = let no = none refl in absurd (cc)
         going false none is = refl
 
-    pub turns_stopped : {form other : Leaf} {next : Pace} {others : List Frame} (after : S) (turn : Turn) (took : Bool) → slice_get d.nodes i ≡ Some node → Known d → next ≡ paced took pace → took ≡ false
+    pub turns_stopped : {form other : Leaf} {next : Pace} {others : List Frame} (after : S) (turn : Turn)
+        (took : Bool) → slice_get d.nodes i ≡ Some node → Known d → next ≡ paced took pace → took ≡ false
         → new.place ≤ old.place → new.place + length new.bits < 4294967295 → (new.ended ≡ true → new.bits ≡ []) → IsStopped new turn
         → others ≡ frame.Leaf i other ∷ frames → ReadsLeaf d takes form node old new before after (read.Some other)
         → Turns d takes (leaf_from form) (record { frames = others; values = values; pace = next; coming = new }) before after turn
     turns_stopped {form} {other} {next} {others} after turn took at known paced_by none still small quiet stopped put reads =
         let P : Pace → Type 0 = λ p. Turns d takes (leaf_from form) (record { frames = others; values = values; pace = p; coming = new }) before after turn in
-        let Q : List Frame → Type 0 = λ l. Turns d takes (leaf_from form) (record { frames = l; values = values; pace = paced false pace; coming = new }) before after turn in
+        let Q : List Frame → Type 0 = λ l. Turns d takes (leaf_from form)
+        (record { frames = l; values = values; pace = paced false pace; coming = new }) before after turn in
         subst P (sym (paced_by ∙ ap (λ b. paced b pace) none)) (subst Q (sym put) (turns_none after turn at known still small quiet stopped reads))
 
     -- a bit differs
-    pub turns_refused : {form : Leaf} {next : StateV} (after : S) (place : ℕ) → slice_get d.nodes i ≡ Some node → Known d → ReadsLeaf d takes form node old new before after (read.Refused place)
+    pub turns_refused : {form : Leaf} {next : StateV} (after : S) (place : ℕ) → slice_get d.nodes i ≡ Some node
+        → Known d → ReadsLeaf d takes form node old new before after (read.Refused place)
         → (stack : List Left) (done : List ℕ) → Stands d (leaf_from form) stack done → RefusesAt d takes (leaf_from form) next before after stack done place
     turns_refused after place at known reads stack done stands =
         let t = leaf_stands stands.shows in

@@ -1,5 +1,6 @@
 -- One turn after another.
-use Rattle.std.proofs.Common.{◌≡◌, ℕ, ◌<◌, Bool, true, false, List, [], ◌∷◌, ◌++◌, length, refl, sym, ◌∙◌, ap, subst, arith, append_assoc, length-append, reverse, ◌⊎◌, inl, inr, Some, slice_get}
+use Rattle.std.proofs.Common.{◌≡◌, ℕ, ◌<◌, Bool, true, false, List, [], ◌∷◌, ◌++◌, length, refl, sym, ◌∙◌, ap, subst}
+use Rattle.std.proofs.Common.{arith, append_assoc, length-append, reverse, ◌⊎◌, inl, inr, Some, slice_get}
 use Rattle.std.specs.Bool.{⊤}
 use Rattle.csn_desc.specs.declared.moves.Move.{Move}
 use Rattle.csn_desc.specs.declared.moves.Move.TheVariants.{Leave}
@@ -85,8 +86,11 @@ module _ (d : DescV) where
         over same (inr unended) = inr (λ rest h. unended rest (rest_from d (sym same) h))
 
     -- a part is read at once, and the node round it is left behind it
-    pub read_and_left : {old middle : StateV} {s t u after : S} {top : Frame} {i : ℕ} {frames : List Frame} {stack : List Left} {done : List ℕ} (values : List Number) (pace : Pace) (coming : Coming) (node : Node)
-        → GoesOn d takes old middle s t stack done → Turns d takes middle (record { frames = top ∷ frames; values = values; pace = pace; coming = coming }) t u Moved
+    pub read_and_left : {old middle : StateV} {s t u after : S} {top : Frame} {i : ℕ} {frames : List Frame}
+        {stack : List Left} {done : List ℕ} (values : List Number) (pace : Pace) (coming : Coming) (node : Node)
+        → GoesOn d takes old middle s t stack done
+        → Turns d takes middle (record { frames = top ∷ frames; values = values; pace = pace; coming = coming })
+        t u Moved
         → IsPassed top i → Known d → slice_get d.nodes i ≡ Some node → takes u Leave node after
         → GoesOn d takes old (record { frames = frames; values = values; pace = pace; coming = coming }) s after stack done
     read_and_left {u = u} {done = done} values pace coming node first read passed known at told =
@@ -109,7 +113,9 @@ module _ (d : DescV) where
           place_is = omega (arith, second.place_is, length-append done first.taken, length-append first.taken second.alike);
           followed = first.steps.went second.alike going (shorter (second.bit ∷ second.later) second.bits) second.followed;
           no_further = λ g.
-              second.no_further (first.steps.goes (second.alike ++ second.bit ∷ []) going (shorter second.later (second.bits ∙ sym (append_assoc second.alike (second.bit ∷ []) second.later)))
+              second.no_further (first.steps.goes (second.alike ++ second.bit ∷ []) going
+              (shorter second.later
+              (second.bits ∙ sym (append_assoc second.alike (second.bit ∷ []) second.later)))
               (goes_along d (append_assoc first.taken second.alike (second.bit ∷ [])) g));
           tells = tells_then takes first.tells second.tells;
         }
@@ -128,37 +134,45 @@ module _ (d : DescV) where
         → (old.coming.ended ≡ true → middle.coming.bits ≡ [])
         → ((stack : List Left) (done : List ℕ) → Stands d old stack done → GoesOn d takes old middle s t stack done)
         → Turns d takes middle new t u turn → Turns d takes old new s u turn
-    turns_then new u Moved quiet first second = λ stack done stands. let on = first stack done stands in on_then on (second on.now (done ++ on.taken) on.stands)
-    turns_then new u Waits quiet first second = λ stack done stands. let on = first stack done stands in waits_then on (second on.now (done ++ on.taken) on.stands)
+    turns_then new u Moved quiet first second = λ stack done stands. let on = first stack done stands in
+        on_then on (second on.now (done ++ on.taken) on.stands)
+    turns_then new u Waits quiet first second = λ stack done stands. let on = first stack done stands in
+        waits_then on (second on.now (done ++ on.taken) on.stands)
     turns_then {old} new u (Refused place) quiet first second = λ stack done stands.
         let on = first stack done stands in
         refuses_after on old.coming.ended refl quiet (second on.now (done ++ on.taken) on.stands)
 
   module _ {S : Type 0} (takes : S → Move → Node → S → Type 0) (s : S) where
     -- a turn that makes no move tells none
-    none_told : {around others : List ℕ} {moves : List Move} {before after : ⊤} → Tells d tells_nothing around moves others before after → Tells d takes around moves others s s
+    none_told : {around others : List ℕ} {moves : List Move} {before after : ⊤}
+        → Tells d tells_nothing around moves others before after → Tells d takes around moves others s s
     none_told (tells_none same still) = tells_none same refl
     none_told (tells_enter node next at took rest) = absurd took
     none_told (tells_bit node next at took rest) = absurd took
     none_told (tells_leave node next at took rest) = absurd took
 
     pub quietly : (old new : StateV) (turn : Turn) → Turns d tells_nothing old new tt tt turn → Turns d takes old new s s turn
-    quietly old new turn turns = turns_as d tells_nothing takes old old new tt tt s s refl refl (λ moves around told. none_told told) turn (λ stack done stands. stands) turns
+    quietly old new turn turns = turns_as d tells_nothing takes old old new tt tt s s refl refl
+        (λ moves around told. none_told told) turn (λ stack done stands. stands) turns
 
   -- where nothing is open no bit is taken
   shows_nothing : {values : List Number} {stack : List Left} {done : List ℕ} → Shows d [] values stack done → stack ≡ []
   shows_nothing (shows_none kept) = refl
 
-  pub stops_behind : {S : Type 0} (takes : S → Move → Node → S → Type 0) (s : S) (values : List Number) (pace : Pace) (coming : Coming) (turn : Turn) → IsStopped coming turn → Known d
-      → Turns d takes (record { frames = []; values = values; pace = pace; coming = coming }) (record { frames = []; values = values; pace = pace; coming = coming }) s s turn
+  pub stops_behind : {S : Type 0} (takes : S → Move → Node → S → Type 0) (s : S) (values : List Number) (pace : Pace)
+      (coming : Coming) (turn : Turn) → IsStopped coming turn → Known d
+      → Turns d takes (record { frames = []; values = values; pace = pace; coming = coming })
+      (record { frames = []; values = values; pace = pace; coming = coming }) s s turn
   stops_behind takes s values pace coming turn stopped known =
       stops d takes s values pace coming [] turn stopped known
       (λ stack done stands bit rest is g. nothing_follows d done bit [] (subst (λ (l : List Left). Goes d l done (bit ∷ [])) (shows_nothing stands.shows) g))
       (λ stack done stands ended. inl refl)
 
   -- the frames of choices and labels are those of nodes
-  pub choice_within : {k : ℕ} {frames : List Frame} {values : List Number} {stack : List Left} {done : List ℕ} → Shows d (frame.Choice k ∷ frames) values stack done → k < length d.nodes
+  pub choice_within : {k : ℕ} {frames : List Frame} {values : List Number} {stack : List Left} {done : List ℕ}
+      → Shows d (frame.Choice k ∷ frames) values stack done → k < length d.nodes
   choice_within {k} (shows_taken i is kept round) = slice_get_within d.nodes k _ is.at
 
-  pub label_within : {k : ℕ} {frames : List Frame} {values : List Number} {stack : List Left} {done : List ℕ} → Shows d (frame.Named k ∷ frames) values stack done → k < length d.nodes
+  pub label_within : {k : ℕ} {frames : List Frame} {values : List Number} {stack : List Left} {done : List ℕ}
+      → Shows d (frame.Named k ∷ frames) values stack done → k < length d.nodes
   label_within {k} (shows_labelled i is kept round) = slice_get_within d.nodes k _ is.at

@@ -1,5 +1,7 @@
 -- Turns of the frames of sequences.
-use Rattle.std.proofs.Common.{◌≡◌, ℕ, suc, ◌+◌, ◌<◌, ◌≤◌, Bool, true, false, if◌then◌else◌, List, drop, take, [], ◌∷◌, ◌++◌, length, refl, sym, ◌∙◌, ap, subst, arith, length-append, append_assoc, Option, Some, slice_get}
+use Rattle.std.proofs.Common.{◌≡◌, ℕ, suc, ◌+◌, ◌<◌, ◌≤◌, Bool, true, false, if◌then◌else◌, List, drop, take, [], ◌∷◌}
+use Rattle.std.proofs.Common.{◌++◌, length, refl, sym, ◌∙◌, ap, subst, arith, length-append, append_assoc, Option}
+use Rattle.std.proofs.Common.{Some, slice_get}
 use Rattle.std.proofs.lemmas.List.{length-take, take-append-le}
 use Rattle.csn_desc.specs.declared.moves.Move.{Move}
 use Rattle.csn_desc.specs.declared.moves.Move.TheVariants.{Leave}
@@ -42,13 +44,15 @@ none_there before (k ∷ after) i all = absurd (omega (arith, all, length-append
 
 module _ (d : DescV) where
   kept_more : (count i : ℕ) (b : List ℕ) (v : Values) (labelled counted : Bool) → count ≤ length (numbers_of d v)
-      → take count (if labelled then (if counted then numbers_of d v ++ record { field = i; value = number_of b } ∷ [] else numbers_of d v) else numbers_of d v) ≡ take count (numbers_of d v)
+      → take count (if labelled then (if counted then numbers_of d v ++ record { field = i; value = number_of b }
+      ∷ [] else numbers_of d v) else numbers_of d v) ≡ take count (numbers_of d v)
   kept_more count i b v true true few = take-append-le count (numbers_of d v) (record { field = i; value = number_of b } ∷ []) few
   kept_more count i b v true false few = refl
   kept_more count i b v false counted few = refl
 
   -- one value more changes none before
-  pub sees_more : {outer : List Left} {count : ℕ} {v : Values} (i : ℕ) (b : List ℕ) → SeesMore d outer count v → SeesMore d outer count (with_value d.nodes i b v)
+  pub sees_more : {outer : List Left} {count : ℕ} {v : Values} (i : ℕ) (b : List ℕ)
+      → SeesMore d outer count v → SeesMore d outer count (with_value d.nodes i b v)
   sees_more {outer} {count} {v} i b more = record { count_is = more.count_is; same = by (is_named d.nodes i) ∙ more.same }
     where
       few : count ≤ length (numbers_of d v)
@@ -86,7 +90,8 @@ module _ (d : DescV) where
   -- the next part
   pub next_stack : {i from j : ℕ} {ps : List ℕ} {v : Values} {outer : List Left} {done : List ℕ} (pace : Pace) → Known d
       → IsStack d pace.next (fresh_at pace (length done)) (parts_left i from (j ∷ ps) v ∷ outer) done
-      → IsStack d (begun_by j pace).next (fresh_at (begun_by j pace) (length done)) (all_left j (behind d i from v done) ∷ parts_left j (length done) ps (behind d i from v done) ∷ outer) done
+      → IsStack d (begun_by j pace).next (fresh_at (begun_by j pace) (length done))
+      (all_left j (behind d i from v done) ∷ parts_left j (length done) ps (behind d i from v done) ∷ outer) done
   next_stack {ps = ps} pace known (stack_node k start v0 bits ready (of_parts parts before at parted so_far order none fits well read up) inside) =
       risen d pace (later_rises d 12 known.description known.certified k ps before at parted up)
       (of_begun d (next_begun d 12 known.description known.certified parts before at parted so_far order none fits well read bits ready inside))
@@ -99,7 +104,9 @@ module _ (d : DescV) where
   pub parts_done : {next : ℕ} {fresh : Option ℕ} {i from : ℕ} {v : Values} {outer : List Left} {done : List ℕ} → Known d
       → IsStack d next fresh (parts_left i from [] v ∷ outer) done → IsStack d next fresh (none_left ∷ outer) done
   parts_done known (stack_node k start v0 bits ready (of_parts parts before at parted so_far order none fits well read up) inside) =
-      stack_node k start v0 bits ready (of_read (sequence_read d 12 known.description known.certified parts before at parted so_far order none read) (up_part d before _ [] at parted up)) inside
+      stack_node k start v0 bits ready
+      (of_read (sequence_read d 12 known.description known.certified parts before at parted so_far order none
+      read) (up_part d before _ [] at parted up)) inside
 
   pub record NextBegins (pace : Pace) (j : ℕ) (frames : List Frame) : Type 0 where
     pub within : j < 16384
@@ -110,12 +117,16 @@ module _ (d : DescV) where
   pub next_begins :
       {k next count j : ℕ} {frames : List Frame} {values : List Number} {stack : List Left} {done : List ℕ} (pace : Pace) (parts : List ℕ)
       → slice_get d.nodes k ≡ Some (Seq parts) → slice_get parts next ≡ Some j
-      → Known d → Shows d (frame.Seq k next count ∷ frames) values stack done → IsStack d pace.next (fresh_at pace (length done)) stack done → NextBegins pace j frames
+      → Known d → Shows d (frame.Seq k next count ∷ frames) values stack done
+      → IsStack d pace.next (fresh_at pace (length done)) stack done → NextBegins pace j frames
   next_begins {k} {next} {count} {j} {frames} {values} {stack} {done} pace parts at here known shows is =
       let t = parts_stand shows in
       let same : parts ≡ t.parts = let a = t.has.at in cc in
-      let found = next_there t.has.before t.after t.i j (ap (λ n. slice_get (t.has.before ++ t.i ∷ t.after) n) (sym t.has.next_is) ∙ ap (λ l. slice_get l next) (sym t.has.is) ∙ ap (λ l. slice_get l next) (sym same) ∙ here) in
-      let stood = subst (λ (l : List Left). IsStack d pace.next (fresh_at pace (length done)) l done) (t.is ∙ ap (λ l. parts_left t.i t.from l t.v ∷ t.outer) found.1) is in
+      let found = next_there t.has.before t.after t.i j (ap (λ n. slice_get (t.has.before ++ t.i ∷ t.after) n)
+      (sym t.has.next_is) ∙ ap (λ l. slice_get l next) (sym t.has.is) ∙ ap (λ l. slice_get l next) (sym same)
+      ∙ here) in
+      let stood = subst (λ (l : List Left). IsStack d pace.next (fresh_at pace (length done)) l done)
+      (t.is ∙ ap (λ l. parts_left t.i t.from l t.v ∷ t.outer) found.1) is in
       let stack_is = next_stack pace known stood in
       record {
         within = omega (arith, begun_within d stack_is, known.description.few);
@@ -130,13 +141,30 @@ module _ (d : DescV) where
         {k next count j : ℕ} {frames : List Frame} {stack : List Left} {done : List ℕ} (parts : List ℕ)
         → slice_get d.nodes k ≡ Some (Seq parts) → slice_get parts next ≡ Some j
         → Known d → Stands d (state d takes before values pace coming (frame.Seq k next count ∷ frames)) stack done
-        → GoesOn d takes (state d takes before values pace coming (frame.Seq k next count ∷ frames)) (record { frames = frame.Begin j ∷ frame.Seq k (next + 1) count ∷ frames; values = values; pace = begun_by j pace; coming = coming }) before before stack done
+        → GoesOn d takes (state d takes before values pace coming (frame.Seq k next count ∷ frames))
+        (record {
+          frames = frame.Begin j ∷ frame.Seq k (next + 1) count ∷ frames;
+          values = values;
+          pace =
+              begun_by j pace;
+          coming = coming;
+        }) before before stack done
     begins_next {k} {next} {count} {j} {frames} {stack} {done} parts at here known stands =
         let t = parts_stand stands.shows in
         let same : parts ≡ t.parts = let a = t.has.at in cc in
-        let found = next_there t.has.before t.after t.i j (ap (λ n. slice_get (t.has.before ++ t.i ∷ t.after) n) (sym t.has.next_is) ∙ ap (λ l. slice_get l next) (sym t.has.is) ∙ ap (λ l. slice_get l next) (sym same) ∙ here) in
+        let found = next_there t.has.before t.after t.i j (ap (λ n. slice_get (t.has.before ++ t.i ∷ t.after) n)
+        (sym t.has.next_is) ∙ ap (λ l. slice_get l next) (sym t.has.is) ∙ ap (λ l. slice_get l next) (sym same)
+        ∙ here) in
         let w : Values = behind d t.i t.from t.v done in
-        let P : List Left → Type 0 = λ l. GoesOn d takes (state d takes before values pace coming (frame.Seq k next count ∷ frames)) (record { frames = frame.Begin j ∷ frame.Seq k (next + 1) count ∷ frames; values = values; pace = begun_by j pace; coming = coming }) before before l done in
+        let P : List Left → Type 0 =
+        λ l. GoesOn d takes (state d takes before values pace coming (frame.Seq k next count ∷ frames))
+        (record {
+          frames = frame.Begin j ∷ frame.Seq k (next + 1) count ∷ frames;
+          values = values;
+          pace =
+              begun_by j pace;
+          coming = coming;
+        }) before before l done in
         let is : stack ≡ parts_left t.i t.from (j ∷ found.0) t.v ∷ t.outer = t.is ∙ ap (λ l. parts_left t.i t.from l t.v ∷ t.outer) found.1 in
         let later : HasNext d (Seq t.parts) t.parts k (next + 1) count j found.0 w t.outer =
         record {
@@ -159,12 +187,17 @@ module _ (d : DescV) where
         {k next count : ℕ} {frames : List Frame} {after : S} {stack : List Left} {done : List ℕ} (parts : List ℕ)
         → slice_get d.nodes k ≡ Some (Seq parts) → next ≡ length parts → takes before Leave (Seq parts) after
         → Known d → Stands d (state d takes before values pace coming (frame.Seq k next count ∷ frames)) stack done
-        → GoesOn d takes (state d takes before values pace coming (frame.Seq k next count ∷ frames)) (record { frames = frames; values = take count values; pace = pace; coming = coming }) before after stack done
+        → GoesOn d takes (state d takes before values pace coming (frame.Seq k next count ∷ frames))
+        (record { frames = frames; values = take count values; pace = pace; coming = coming })
+        before after stack done
     ends_parts {k} {next} {count} {frames} {after} {stack} {done} parts at all told known stands =
         let t = parts_stand stands.shows in
         let same : parts ≡ t.parts = let a = t.has.at in cc in
         let none = none_there t.has.before t.after t.i (sym t.has.next_is ∙ all ∙ ap (λ l. length l) (same ∙ t.has.is)) in
-        let P : List Left → Type 0 = λ l. GoesOn d takes (state d takes before values pace coming (frame.Seq k next count ∷ frames)) (record { frames = frames; values = take count values; pace = pace; coming = coming }) before after l done in
+        let P : List Left → Type 0 =
+        λ l. GoesOn d takes (state d takes before values pace coming (frame.Seq k next count ∷ frames))
+        (record { frames = frames; values = take count values; pace = pace; coming = coming })
+        before after l done in
         let is : stack ≡ parts_left t.i t.from [] t.v ∷ t.outer = t.is ∙ ap (λ l. parts_left t.i t.from l t.v ∷ t.outer) none in
         let more = sees_more t.i (drop t.from done) t.has.more in
         subst P (sym is)

@@ -1,5 +1,7 @@
 -- Turns of the frames of truncations.
-use Rattle.std.proofs.Common.{inl, inr, ◌≡◌, ℕ, suc, ◌+◌, ◌%◌, ◌<◌, ◌≤◌, ◌⊎◌, true, List, take, drop, [], ◌∷◌, ◌++◌, length, refl, sym, ◌∙◌, ap, subst, arith, append_assoc, length-append, Option, Some, slice_get}
+use Rattle.std.proofs.Common.{inl, inr, ◌≡◌, ℕ, suc, ◌+◌, ◌%◌, ◌<◌, ◌≤◌, ◌⊎◌, true, List, take, drop, [], ◌∷◌, ◌++◌}
+use Rattle.std.proofs.Common.{length, refl, sym, ◌∙◌, ap, subst, arith, append_assoc, length-append, Option, Some}
+use Rattle.std.proofs.Common.{slice_get}
 use Rattle.std.proofs.lemmas.List.{take_all}
 use Rattle.csn_desc.specs.declared.moves.Move.{Move}
 use Rattle.csn_desc.specs.declared.moves.Move.TheVariants.{Leave}
@@ -73,7 +75,8 @@ module _ (d : DescV) where
 
   pub later_stack : {i from j : ℕ} {ps : List ℕ} {v : Values} {outer : List Left} {done : List ℕ} (pace : Pace) → Known d
       → IsStack d pace.next (fresh_at pace (length done)) (lead_left i from (j ∷ ps) v ∷ outer) done
-      → IsStack d (begun_by j pace).next (fresh_at (begun_by j pace) (length done)) (all_left j (behind d i from v done) ∷ lead_left j (length done) ps (behind d i from v done) ∷ outer) done
+      → IsStack d (begun_by j pace).next (fresh_at (begun_by j pace) (length done))
+      (all_left j (behind d i from v done) ∷ lead_left j (length done) ps (behind d i from v done) ∷ outer) done
   later_stack {ps = ps} pace known (stack_node k start v0 bits ready (of_lead parts before at parted so_far order fits well read up) inner) =
       risen d pace (later_rises d 12 known.description known.certified k ps before at parted up)
       (of_begun d (next_component_begun d 12 known.description known.certified parts before at parted so_far order fits well read bits ready inner))
@@ -82,31 +85,68 @@ module _ (d : DescV) where
   pub first_hand : {next : ℕ} {fresh : Option ℕ} {parts : List ℕ} {v : Values} {outer : List Left} {done : List ℕ}
       → IsStack d next fresh (cut_left parts v ∷ outer) done → Within outer (suc (length done))
       → (k start : ℕ) × (v0 : Values) × AtHand d k start parts [] parts v0 outer done
-  first_hand {done = done} (stack_node k from w bits ready (of_cut at same place just) inner) within =
-      (k, from, w, record { at = at; split = refl; so_far = parts_end (ap (λ n. n % 8) (sym place)); ready = ready; fresh = _; inner = inner; within = within })
+  first_hand {done = done} (stack_node k from w bits ready (of_cut at same place just) inner) within = (
+    k,
+    from,
+    w,
+    record {
+      at = at;
+      split = refl;
+      so_far = parts_end (ap (λ n. n % 8) (sym place));
+      ready =
+          ready;
+      fresh = _;
+      inner = inner;
+      within = within;
+    },
+  )
 
   pub later_hand : {next : ℕ} {fresh : Option ℕ} {i from : ℕ} {after : List ℕ} {v : Values} {outer : List Left} {done : List ℕ}
       → IsStack d next fresh (lead_left i from after v ∷ outer) done → Within outer (suc (length done))
       → (k start : ℕ) × (parts before : List ℕ) × (v0 : Values) × AtHand d k start parts before after v0 outer done
-  later_hand {i = i} {after = after} {done = done} (stack_node k start v0 bits ready (of_lead parts before at parted so_far order fits well read up) inner) within =
-      (k, start, parts, before ++ i ∷ [], v0, record { at = at; split = parted ∙ sym (append_assoc before (i ∷ []) after); so_far = parts_end_more d so_far read.ends; ready = ready; fresh = _; inner = inner; within = within })
+  later_hand {i = i} {after = after} {done = done}
+      (stack_node k start v0 bits ready (of_lead parts before at parted so_far order fits well read up) inner)
+      within = (
+        k,
+        start,
+        parts,
+        before ++ i ∷ [],
+        v0,
+        record {
+          at = at;
+          split =
+              parted ∙ sym (append_assoc before (i ∷ []) after);
+          so_far = parts_end_more d so_far read.ends;
+          ready =
+              ready;
+          fresh = _;
+          inner = inner;
+          within = within;
+        },
+      )
 
   -- ---- it is left
 
   pub cut_done : {next : ℕ} {fresh : Option ℕ} {parts : List ℕ} {v : Values} {outer : List Left} {done : List ℕ} → Known d
       → IsStack d next fresh (cut_left parts v ∷ outer) done → IsStack d next fresh (none_left ∷ outer) done
   cut_done {next} {parts = parts} {done = done} known (stack_node k from w bits ready (of_cut at same place just) inner) =
-      stack_node k from w bits ready (of_read (truncation_read d 12 known.description known.certified parts [] parts at refl (parts_end (ap (λ n. n % 8) (sym place))) (omega (arith, place))) (λ end span. omega (arith, just, up_here d k end span))) inner
+      stack_node k from w bits ready
+      (of_read (truncation_read d 12 known.description known.certified parts [] parts at refl
+      (parts_end (ap (λ n. n % 8) (sym place))) (omega (arith, place)))
+      (λ end span. omega (arith, just, up_here d k end span))) inner
 
   pub lead_done : {next : ℕ} {fresh : Option ℕ} {i from : ℕ} {after : List ℕ} {v : Values} {outer : List Left} {done : List ℕ} → Known d
       → IsStack d next fresh (lead_left i from after v ∷ outer) done → IsStack d next fresh (none_left ∷ outer) done
   lead_done {i = i} {after = after} known (stack_node k start v0 bits ready (of_lead parts before at parted so_far order fits well read up) inner) =
       stack_node k start v0 bits ready
-      (of_read (truncation_read d 12 known.description known.certified parts (before ++ i ∷ []) after at (parted ∙ sym (append_assoc before (i ∷ []) after)) (parts_end_more d so_far read.ends) (omega (arith, order, read.order)))
+      (of_read (truncation_read d 12 known.description known.certified parts (before ++ i ∷ []) after at
+      (parted ∙ sym (append_assoc before (i ∷ []) after)) (parts_end_more d so_far read.ends)
+      (omega (arith, order, read.order)))
       (up_part d before i after at parted up)) inner
 
   module _ {S : Type 0} (takes : S → Move → Node → S → Type 0) (before : S) (values : List Number) (pace : Pace) (coming : Coming) where
-    on_bits : {old new : List Left} {done : List ℕ} (bits : List ℕ) (bit : ℕ) (more : List ℕ) → bits ≡ bit ∷ more → Steps d old new done [] (bit ∷ more) [] → Steps d old new done [] bits []
+    on_bits : {old new : List Left} {done : List ℕ} (bits : List ℕ) (bit : ℕ) (more : List ℕ)
+        → bits ≡ bit ∷ more → Steps d old new done [] (bit ∷ more) [] → Steps d old new done [] bits []
     on_bits {old} {new} {done} bits bit more e steps =
         let P : List ℕ → Type 0 = λ l. Steps d old new done [] l [] in
         subst P (sym e) steps
@@ -117,11 +157,25 @@ module _ (d : DescV) where
         → slice_get d.nodes k ≡ Some (Trunc parts) → slice_get parts next ≡ Some j
         → coming.bits ≡ bit ∷ more → coming.place < coming.limit
         → Known d → Stands d (state d takes before values pace coming (frame.Trunc k next count ∷ frames)) stack done
-        → GoesOn d takes (state d takes before values pace coming (frame.Trunc k next count ∷ frames)) (record { frames = frame.Begin j ∷ frame.Trunc k (next + 1) count ∷ frames; values = values; pace = begun_by j pace; coming = coming }) before before stack done
+        → GoesOn d takes (state d takes before values pace coming (frame.Trunc k next count ∷ frames))
+        (record {
+          frames = frame.Begin j ∷ frame.Trunc k (next + 1) count ∷ frames;
+          values = values;
+          pace =
+              begun_by j pace;
+          coming = coming;
+        }) before before stack done
     begins_component {k} {next} {count} {j} {frames} {stack} {done} parts bit more at here e less known stands = by (trunc_stands stands.shows)
       where
         P : List Left → Type 0
-        P l = GoesOn d takes (state d takes before values pace coming (frame.Trunc k next count ∷ frames)) (record { frames = frame.Begin j ∷ frame.Trunc k (next + 1) count ∷ frames; values = values; pace = begun_by j pace; coming = coming }) before before l done
+        P l = GoesOn d takes (state d takes before values pace coming (frame.Trunc k next count ∷ frames))
+            (record {
+              frames = frame.Begin j ∷ frame.Trunc k (next + 1) count ∷ frames;
+              values = values;
+              pace =
+                  begun_by j pace;
+              coming = coming;
+            }) before before l done
 
         at_hand : (outer : List Left) → coming.limit ≡ limit_in outer → Within outer (suc (length done))
         at_hand outer limit = within_limit d outer (suc (length done)) (omega (arith, less, limit, stands.place))
@@ -129,7 +183,8 @@ module _ (d : DescV) where
         some : 0 < length coming.bits
         some = omega (arith, ap (λ l. length l) e)
 
-        empty_of : {next : ℕ} {fresh : Option ℕ} {v : Values} {outer : List Left} → IsStack d next fresh (all_left j v ∷ outer) done → NFollow d j (length done) v []
+        empty_of : {next : ℕ} {fresh : Option ℕ} {v : Values} {outer : List Left}
+            → IsStack d next fresh (all_left j v ∷ outer) done → NFollow d j (length done) v []
         empty_of {v = v} is = node_empty d (moving d known) known.empties (length done) v (begun_of d is).ready.formed
 
         first : (all : List ℕ) → slice_get all 0 ≡ Some j → (ps : List ℕ) × (all ≡ j ∷ ps)
@@ -150,17 +205,27 @@ module _ (d : DescV) where
               before = [];
               is = found.1;
               next_is = omega (arith, none);
-              more = record { count_is = count_is ∙ ap (λ l. length l) (kept ∙ ap (λ w. numbers_of d w) seen); same = ap (λ n. take n (numbers_of d v)) (count_is ∙ ap (λ l. length l) kept) ∙ take_all (length (numbers_of d v)) (numbers_of d v) (omega arith) ∙ ap (λ w. numbers_of d w) seen };
+              more = record {
+                count_is = count_is ∙ ap (λ l. length l) (kept ∙ ap (λ w. numbers_of d w) seen);
+                same =
+                    ap (λ n. take n (numbers_of d v)) (count_is ∙ ap (λ l. length l) kept)
+                    ∙ take_all (length (numbers_of d v)) (numbers_of d v) (omega arith)
+                    ∙ ap (λ w. numbers_of d w) seen;
+              };
             } in
             subst P (sym there)
             (still d takes before values pace coming (begun_by j pace) stands.place (shows_begin refl kept (round_trunc others later round))
             now limit
             (inr (some, at_hand outer limit), subst (λ (l : List Left). AreOwed l done coming.bits) there stands.owed)
-            (passes_of coming.ended (on_bits coming.bits bit more e (first_component d 12 known.description known.certified (moving d known) known j found.0 v bit more hand.3 (empty_of now))))
+            (passes_of coming.ended
+            (on_bits coming.bits bit more e (first_component d 12 known.description known.certified
+            (moving d known) known j found.0 v bit more hand.3 (empty_of now))))
             (tells_none refl refl))
         by (stands_lead outer i from after v others is has kept round) =
             let same : parts ≡ others = let a = has.at in cc in
-            let found = next_there has.before after i j (ap (λ n. slice_get (has.before ++ i ∷ after) n) (sym has.next_is) ∙ ap (λ l. slice_get l next) (sym has.is) ∙ ap (λ l. slice_get l next) (sym same) ∙ here) in
+            let found = next_there has.before after i j (ap (λ n. slice_get (has.before ++ i ∷ after) n)
+            (sym has.next_is) ∙ ap (λ l. slice_get l next) (sym has.is) ∙ ap (λ l. slice_get l next) (sym same)
+            ∙ here) in
             let w : Values = behind d i from v done in
             let there : stack ≡ lead_left i from (j ∷ found.0) v ∷ outer = is ∙ ap (λ l. lead_left i from l v ∷ outer) found.1 in
             let stack_is = subst (λ (l : List Left). IsStack d pace.next (fresh_at pace (length done)) l done) there stands.stack_is in
@@ -179,7 +244,9 @@ module _ (d : DescV) where
             (still d takes before values pace coming (begun_by j pace) stands.place (shows_begin refl kept (round_trunc others later round))
             now limit
             (inr (some, at_hand outer limit), owed.1)
-            (passes_of coming.ended (on_bits coming.bits bit more e (next_component d 12 known.description known.certified (moving d known) known i from j found.0 v bit more hand.5 (empty_of now))))
+            (passes_of coming.ended
+            (on_bits coming.bits bit more e (next_component d 12 known.description known.certified
+            (moving d known) known i from j found.0 v bit more hand.5 (empty_of now))))
             (tells_none refl refl))
 
     -- behind the last component
@@ -187,11 +254,16 @@ module _ (d : DescV) where
         → IsStack d next fresh (lead_left i from [] v ∷ outer) done → (from < length done) ⊎ ((0 < length coming.bits) × Within outer (suc (length done)))
         → Passes d coming.ended (lead_left i from [] v ∷ outer) (none_left ∷ outer) done [] coming.bits []
     all_passes {i = i} {from} {v} {outer} {done} known is (inl took) =
-        passes_of coming.ended (replaced d coming.bits (none_taken d) (alike d (no_components d 12 known.description known.certified (moving d known) known i from v done took)))
+        passes_of coming.ended
+        (replaced d coming.bits (none_taken d)
+        (alike d (no_components d 12 known.description known.certified (moving d known)
+        known i from v done took)))
     all_passes {i = i} {from} {v} {outer} {done} known is (inr owed) =
         let bit = first_of coming.bits owed.0 in
         let hand = later_hand is owed.1 in
-        passes_of coming.ended (on_bits coming.bits bit.0 bit.1 bit.2 (none_behind d 12 known.description known.certified (moving d known) known i from v bit.0 bit.1 hand.5))
+        passes_of coming.ended
+        (on_bits coming.bits bit.0 bit.1 bit.2 (none_behind d 12 known.description known.certified
+        (moving d known) known i from v bit.0 bit.1 hand.5))
 
     -- it is left behind a component where it passes with no bits
     left_lead :
@@ -202,9 +274,14 @@ module _ (d : DescV) where
         → (IsStack d pace.next (fresh_at pace (length done)) (lead_left i from rest v ∷ outer) done → coming.limit ≡ limit_in outer
         → (from < length done) ⊎ ((0 < length coming.bits) × Within outer (suc (length done)))
         → Passes d coming.ended (lead_left i from rest v ∷ outer) (none_left ∷ outer) done [] coming.bits [])
-        → GoesOn d takes (state d takes before values pace coming (frame.Trunc k next count ∷ frames)) (record { frames = frames; values = take count values; pace = pace; coming = coming }) before after stack done
+        → GoesOn d takes (state d takes before values pace coming (frame.Trunc k next count ∷ frames))
+        (record { frames = frames; values = take count values; pace = pace; coming = coming })
+        before after stack done
     left_lead {k} {next} {count} {i} {from} {frames = frames} {after = after} {done = done} parts at told known stands is sees kept round passes =
-        let P : List Left → Type 0 = λ l. GoesOn d takes (state d takes before values pace coming (frame.Trunc k next count ∷ frames)) (record { frames = frames; values = take count values; pace = pace; coming = coming }) before after l done in
+        let P : List Left → Type 0 =
+        λ l. GoesOn d takes (state d takes before values pace coming (frame.Trunc k next count ∷ frames))
+        (record { frames = frames; values = take count values; pace = pace; coming = coming })
+        before after l done in
         let stack_is = subst (λ (l : List Left). IsStack d pace.next (fresh_at pace (length done)) l done) is stands.stack_is in
         let limit = stands.limit ∙ ap (λ (l : List Left). limit_in l) is in
         let owed = subst (λ (l : List Left). AreOwed l done coming.bits) is stands.owed in
@@ -222,19 +299,31 @@ module _ (d : DescV) where
         → slice_get d.nodes k ≡ Some (Trunc parts) → takes before Leave (Trunc parts) after → IsGood coming
         → (coming.bits ≡ []) ⊎ (coming.place ≡ coming.limit) → (coming.ended ≡ true) ⊎ (coming.place ≡ coming.limit)
         → Known d → Stands d (state d takes before values pace coming (frame.Trunc k next count ∷ frames)) stack done
-        → GoesOn d takes (state d takes before values pace coming (frame.Trunc k next count ∷ frames)) (record { frames = frames; values = take count values; pace = pace; coming = coming }) before after stack done
+        → GoesOn d takes (state d takes before values pace coming (frame.Trunc k next count ∷ frames))
+        (record { frames = frames; values = take count values; pace = pace; coming = coming })
+        before after stack done
     ends_truncation {k} {next} {count} {frames} {after} {stack} {done} parts at told good unready closed known stands = by (trunc_stands stands.shows)
       where
         P : List Left → Type 0
-        P l = GoesOn d takes (state d takes before values pace coming (frame.Trunc k next count ∷ frames)) (record { frames = frames; values = take count values; pace = pace; coming = coming }) before after l done
+        P l = GoesOn d takes (state d takes before values pace coming (frame.Trunc k next count ∷ frames))
+            (record { frames = frames; values = take count values; pace = pace; coming = coming }) before after l done
 
-        took_bit : (outer : List Left) (from : ℕ) → coming.limit ≡ limit_in outer → (from < length done) ⊎ ((0 < length coming.bits) × Within outer (suc (length done))) → from < length done
+        took_bit : (outer : List Left) (from : ℕ) → coming.limit ≡ limit_in outer → (from < length done)
+            ⊎ ((0 < length coming.bits) × Within outer (suc (length done))) → from < length done
         took_bit outer from limit (inl took) = took
         took_bit outer from limit (inr owed) = none unready
           where
             none : (coming.bits ≡ []) ⊎ (coming.place ≡ coming.limit) → from < length done
             none (inl nothing) = absurd (omega (arith, owed.0, ap (λ l. length l) nothing))
-            none (inr full) = absurd (omega (arith, limit, full, stands.place, limit_within outer (suc (length done)) (omega (arith, limit, full, good.fits)) owed.1))
+            none (inr full) =
+                absurd (omega (
+                  arith,
+                  limit,
+                  full,
+                  stands.place,
+                  limit_within outer (suc (length done))
+                      (omega (arith, limit, full, good.fits)) owed.1,
+                ))
 
         by : TruncStands k next count frames values stack done → P stack
         by (stands_cut outer others v is at_k none seen kept count_is round) =
@@ -248,20 +337,26 @@ module _ (d : DescV) where
             limit (subst (λ (l : List Left). AreOwed l done coming.bits) is stands.owed)
             (closed_passes d good closed stands.place limit (cut_ends d others v done)))
         by (stands_lead outer i from rest v others is has kept round) =
-            left_lead parts at told known stands is has.more kept round (λ stack_is limit owed. closed_passes d good closed stands.place limit (lead_ends d i from rest v done (took_bit outer from limit owed)))
+            left_lead parts at told known stands is has.more kept round
+            (λ stack_is limit owed. closed_passes d good closed stands.place limit
+            (lead_ends d i from rest v done (took_bit outer from limit owed)))
 
     pub ends_components :
         {k next count : ℕ} {frames : List Frame} {after : S} {stack : List Left} {done : List ℕ} (parts : List ℕ)
         → slice_get d.nodes k ≡ Some (Trunc parts) → takes before Leave (Trunc parts) after
         → next ≡ length parts
         → Known d → Stands d (state d takes before values pace coming (frame.Trunc k next count ∷ frames)) stack done
-        → GoesOn d takes (state d takes before values pace coming (frame.Trunc k next count ∷ frames)) (record { frames = frames; values = take count values; pace = pace; coming = coming }) before after stack done
+        → GoesOn d takes (state d takes before values pace coming (frame.Trunc k next count ∷ frames))
+        (record { frames = frames; values = take count values; pace = pace; coming = coming })
+        before after stack done
     ends_components {k} {next} {count} {frames} {after} {stack} {done} parts at told all known stands = by (trunc_stands stands.shows)
       where
         P : List Left → Type 0
-        P l = GoesOn d takes (state d takes before values pace coming (frame.Trunc k next count ∷ frames)) (record { frames = frames; values = take count values; pace = pace; coming = coming }) before after l done
+        P l = GoesOn d takes (state d takes before values pace coming (frame.Trunc k next count ∷ frames))
+            (record { frames = frames; values = take count values; pace = pace; coming = coming }) before after l done
 
-        formed_at : {next : ℕ} {fresh : Option ℕ} {v : Values} {outer : List Left} (others : List ℕ) → IsStack d next fresh (cut_left others v ∷ outer) done → 1 ≤ length others
+        formed_at : {next : ℕ} {fresh : Option ℕ} {v : Values} {outer : List Left} (others : List ℕ)
+            → IsStack d next fresh (cut_left others v ∷ outer) done → 1 ≤ length others
         formed_at others (stack_node k from w bits ready (of_cut at_k same place just) inner) = has_components others at_k ready.formed
 
         by : TruncStands k next count frames values stack done → P stack
@@ -278,7 +373,9 @@ module _ (d : DescV) where
     -- no place is behind the last component
     pub within_parts :
         {k next count : ℕ} {frames : List Frame} {stack : List Left} {done : List ℕ} (parts : List ℕ)
-        → slice_get d.nodes k ≡ Some (Trunc parts) → Stands d (state d takes before values pace coming (frame.Trunc k next count ∷ frames)) stack done → next ≤ length parts
+        → slice_get d.nodes k ≡ Some (Trunc parts)
+        → Stands d (state d takes before values pace coming (frame.Trunc k next count ∷ frames)) stack done
+        → next ≤ length parts
     within_parts {k} {next} {count} {frames} {stack} {done} parts at stands = by (trunc_stands stands.shows)
       where
         by : TruncStands k next count frames values stack done → next ≤ length parts
@@ -292,7 +389,9 @@ module _ (d : DescV) where
         → slice_get d.nodes k ≡ Some (Trunc parts) → takes before Leave (Trunc parts) after → IsGood coming
         → (length parts ≤ next) ⊎ (((coming.bits ≡ []) ⊎ (coming.place ≡ coming.limit)) × ((coming.ended ≡ true) ⊎ (coming.place ≡ coming.limit)))
         → Known d → Stands d (state d takes before values pace coming (frame.Trunc k next count ∷ frames)) stack done
-        → GoesOn d takes (state d takes before values pace coming (frame.Trunc k next count ∷ frames)) (record { frames = frames; values = take count values; pace = pace; coming = coming }) before after stack done
+        → GoesOn d takes (state d takes before values pace coming (frame.Trunc k next count ∷ frames))
+        (record { frames = frames; values = take count values; pace = pace; coming = coming })
+        before after stack done
     leaves_truncation parts at told good (inl all) known stands = ends_components parts at told (omega (arith, all, within_parts parts at stands)) known stands
     leaves_truncation parts at told good (inr closed) known stands = ends_truncation parts at told good closed.0 closed.1 known stands
 

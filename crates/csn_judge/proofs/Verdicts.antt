@@ -1,5 +1,6 @@
 -- From what is open to what is told of a block: where it begins, goes on, is refused, and ends.
-use Rattle.std.proofs.Common.{◌≡◌, ℕ, zero, suc, ◌+◌, ◌≤◌, inl, inr, true, List, [], ◌∷◌, ◌++◌, length, take, refl, sym, ◌∙◌, ap, subst, arith, append_assoc, append-nil, length-append, None}
+use Rattle.std.proofs.Common.{◌≡◌, ℕ, zero, suc, ◌+◌, ◌≤◌, inl, inr, true, List, [], ◌∷◌, ◌++◌, length, take, refl}
+use Rattle.std.proofs.Common.{sym, ◌∙◌, ap, subst, arith, append_assoc, append-nil, length-append, None}
 use Rattle.std.proofs.lemmas.Bool.Decides.{leb_tells}
 use Rattle.std.proofs.Math.Seq.{take-append_seam, take-append-add}
 use Rattle.csn_desc.specs.declared.moves.Move.{Move}
@@ -27,7 +28,12 @@ module _ (d : DescV) where
   pub stands_new : Moving → StandsFor d (all_left 0 [] ∷ []) [] [] []
   stands_new moving =
       record {
-        ends = λ later moves block. (moves, refl, rest_next later [] moves [] (sym (append-nil later)) (sym (append-nil moves)) (completes_all block.tree block.means block.walks) (rest_end refl refl));
+        ends = λ later moves block. (
+          moves,
+          refl,
+          rest_next later [] moves [] (sym (append-nil later))
+              (sym (append-nil moves)) (completes_all block.tree block.means block.walks) (rest_end refl refl),
+        );
         ended = λ later rest h. whole later rest h;
         goes = λ b agrees f. goes_here (begins_all f) (tt, tt);
         went = λ b agrees g. went b g;
@@ -50,7 +56,13 @@ module _ (d : DescV) where
 
   pub stack_new : IsDescription d → IsStack d 1 None (all_left 0 [] ∷ []) []
   stack_new is =
-      stack_node 0 0 [] tt (record { reached = reached_root refl refl; widths = record { fit = λ field value width at wide. absurd (cc) }; formed = is.well_formed }) (of_all refl refl refl) (inside_none refl refl refl refl)
+      stack_node 0 0 [] tt (record {
+        reached = reached_root refl refl;
+        widths =
+            record { fit = λ field value width at wide. absurd (cc) };
+        formed = is.well_formed;
+      })
+      (of_all refl refl refl) (inside_none refl refl refl refl)
 
   -- ---- further bits come
 
@@ -70,7 +82,8 @@ module _ (d : DescV) where
           more same (shorter rest e) = shorter rest (ap (λ l. c ∷ l) e ∙ ap (λ k. k ∷ (b ++ rest)) same)
           more same (longer rest e) = longer rest (ap (λ l. a ∷ l) e ∙ ap (λ k. k ∷ (ahead ++ rest)) (sym same))
 
-  pub feed_on : {stack : List Left} {done ahead : List ℕ} {made : List Move} (piece : List ℕ) → StandsFor d stack done ahead made → StandsFor d stack done (ahead ++ piece) made
+  pub feed_on : {stack : List Left} {done ahead : List ℕ} {made : List Move} (piece : List ℕ)
+      → StandsFor d stack done ahead made → StandsFor d stack done (ahead ++ piece) made
   feed_on {stack} {done} {ahead} {made} piece s =
       record {
         ends = λ later moves block.
@@ -86,7 +99,8 @@ module _ (d : DescV) where
 
   -- ---- all bits so far can be followed
 
-  pub going : {stack : List Left} {done ahead : List ℕ} {made : List Move} → StandsFor d stack done ahead made → Goes d stack done ahead → NFollow d 0 0 [] (done ++ ahead)
+  pub going : {stack : List Left} {done ahead : List ℕ} {made : List Move} → StandsFor d stack done ahead made
+      → Goes d stack done ahead → NFollow d 0 0 [] (done ++ ahead)
   going {ahead = ahead} s g = s.went ahead (shorter [] (sym (append-nil ahead))) g
 
   -- the place of a block that is followed is its length
@@ -99,7 +113,10 @@ module _ (d : DescV) where
 
   -- ---- a bit cannot be followed
 
-  pub refused_at : {stack : List Left} {done ahead : List ℕ} {made : List Move} (alike : List ℕ) (bit : ℕ) (later : List ℕ) → PrefixesAreFollowed → StandsFor d stack done ahead made → ahead ≡ alike ++ bit ∷ later → Goes d stack done alike → ¬ Goes d stack done (alike ++ bit ∷ []) → IsPlace d (done ++ ahead) (length done + length alike)
+  pub refused_at : {stack : List Left} {done ahead : List ℕ} {made : List Move} (alike : List ℕ) (bit : ℕ)
+      (later : List ℕ) → PrefixesAreFollowed → StandsFor d stack done ahead made → ahead ≡ alike ++ bit ∷ later
+      → Goes d stack done alike → ¬ Goes d stack done (alike ++ bit ∷ [])
+      → IsPlace d (done ++ ahead) (length done + length alike)
   refused_at {stack} {done} {ahead} alike bit later prefixes s is g not =
       record {
         within = omega (arith, ap length is, length-append done ahead, length-append alike (bit ∷ later));
@@ -128,7 +145,11 @@ module _ (d : DescV) where
             | inr many ↦
                 let size : length done + length (alike ++ bit ∷ []) ≤ more = omega (arith, many.1, length-append alike (bit ∷ [])) in
                 let rest = beyond more (done ++ ahead) (length done + length (alike ++ bit ∷ [])) size in
-                let front : take (length done + length (alike ++ bit ∷ [])) (done ++ ahead) ≡ done ++ (alike ++ bit ∷ []) = take-append-add done ahead (length (alike ++ bit ∷ [])) ∙ ap (λ l. done ++ take (length (alike ++ bit ∷ [])) l) one_more ∙ ap (λ l. done ++ l) (take-append_seam (alike ++ bit ∷ []) later) in
+                let front : take (length done + length (alike ++ bit ∷ []))
+                (done ++ ahead) ≡ done ++ (alike ++ bit ∷ []) =
+                take-append-add done ahead (length (alike ++ bit ∷ []))
+                ∙ ap (λ l. done ++ take (length (alike ++ bit ∷ [])) l) one_more
+                ∙ ap (λ l. done ++ l) (take-append_seam (alike ++ bit ∷ []) later) in
                 let followed = prefixes d 0 0 [] (done ++ (alike ++ bit ∷ [])) rest.0 (followed_along (rest.1 ∙ ap (λ l. l ++ rest.0) front) f) in
                 absurd (not (s.goes (alike ++ bit ∷ []) (shorter later one_more) followed))
           ]
@@ -147,7 +168,8 @@ module _ (d : DescV) where
         ended = λ rest h. block_along (append-nil done) (s.ended [] rest h);
       }
 
-  pub at_end_after : {old new : List Left} {done : List ℕ} {made more : List Move} → StandsAtEnd old done made → Passes d true old new done [] [] more → StandsAtEnd new done (made ++ more)
+  pub at_end_after : {old new : List Left} {done : List ℕ} {made more : List Move}
+      → StandsAtEnd old done made → Passes d true old new done [] [] more → StandsAtEnd new done (made ++ more)
   at_end_after {done = done} {made = made} {more = more} s p =
       record {
         ends = λ moves block.
@@ -175,15 +197,19 @@ module _ (d : DescV) where
       by found = found.1 ∙ ap (λ l. made ++ l) (none_of found.0 found.2) ∙ append-nil made
 
   -- a form that wants bits ends no block without them
-  pub never_ends : {left : Left} {outer : List Left} {done : List ℕ} {rest : List Move} → ((moves : List Move) → ¬ Completes d left done [] moves) → ¬ Rest d (left ∷ outer) done [] rest
+  pub never_ends : {left : Left} {outer : List Left} {done : List ℕ} {rest : List Move}
+      → ((moves : List Move) → ¬ Completes d left done [] moves) → ¬ Rest d (left ∷ outer) done [] rest
   never_ends never (rest_next b1 b2 first others cut made c o) = never first (completes_along d (front_empty b1 b2 (sym cut)) c)
 
   -- and so the bits have no tree
-  pub no_string : {stack : List Left} {done : List ℕ} {made : List Move} → StandsAtEnd stack done made → ((rest : List Move) → ¬ Rest d stack done [] rest) → (moves : List Move) → ¬ IsBlock d done moves
+  pub no_string : {stack : List Left} {done : List ℕ} {made : List Move}
+      → StandsAtEnd stack done made → ((rest : List Move) → ¬ Rest d stack done [] rest) → (moves : List Move)
+      → ¬ IsBlock d done moves
   no_string s never moves block = let found = s.ends moves block in never found.0 found.2
 
   -- nor have they where some are held that nothing ends with
-  pub no_string_held : {stack : List Left} {done held : List ℕ} {made : List Move} → StandsFor d stack done held made → ((rest : List Move) → ¬ Rest d stack done held rest) → (moves : List Move) → ¬ IsBlock d (done ++ held) moves
+  pub no_string_held : {stack : List Left} {done held : List ℕ} {made : List Move} → StandsFor d stack done held made
+      → ((rest : List Move) → ¬ Rest d stack done held rest) → (moves : List Move) → ¬ IsBlock d (done ++ held) moves
   no_string_held {done = done} {held = held} s never moves block =
       let found = s.ends [] moves (block_along (ap (λ l. done ++ l) (sym (append-nil held))) block) in
       never found.0 (rest_along d (append-nil held) found.2)

@@ -1,5 +1,7 @@
 -- All bits of a node that begins are read at once, where its strings are laid out.
-use Rattle.std.proofs.Common.{◌≡◌, ℕ, ◌+◌, ◌*◌, ◌%◌, ◌<◌, ◌≤◌, Bool, true, false, List, [], ◌∷◌, ◌++◌, length, take, drop, refl, sym, ◌∙◌, ap, subst, arith, append-nil, length-append, take-append-drop, nat_lt, reverse, Option, Some, slice_get}
+use Rattle.std.proofs.Common.{◌≡◌, ℕ, ◌+◌, ◌*◌, ◌%◌, ◌<◌, ◌≤◌, Bool, true, false, List, [], ◌∷◌, ◌++◌, length, take}
+use Rattle.std.proofs.Common.{drop, refl, sym, ◌∙◌, ap, subst, arith, append-nil, length-append, take-append-drop}
+use Rattle.std.proofs.Common.{nat_lt, reverse, Option, Some, slice_get}
 use Rattle.std.proofs.lemmas.List.{nil_from_length, length-take-le}
 use Rattle.std.proofs.lemmas.Bool.{ltb-true, ltb-false}
 use Rattle.csn_bits.specs.Octets.{IsBits}
@@ -56,7 +58,8 @@ module _ (d : DescV) where
 
   -- ---- a string that is read to its end
 
-  field_width : {i o : ℕ} {v : Values} {b : List ℕ} {t : TreeV} (width : ℕ) → Known d → NMeans d i o v b t → width_of (slice_get d.nodes i) ≡ Some width → (length b ≡ width) × IsBits b
+  field_width : {i o : ℕ} {v : Values} {b : List ℕ} {t : TreeV} (width : ℕ) → Known d → NMeans d i o v b t
+      → width_of (slice_get d.nodes i) ≡ Some width → (length b ≡ width) × IsBits b
   field_width {i} {o} {v} {b} width known h is = (by h, known.good d _ _ _ _ _ h)
     where
       of_node : {n : Node} {t : TreeV} → NodeMeans d n o v b t → width_of (Some n) ≡ Some width → length b ≡ width
@@ -79,7 +82,8 @@ module _ (d : DescV) where
   no_bits : {b : List ℕ} (done : List ℕ) → length done ≡ length (done ++ b) → b ≡ []
   no_bits {b} done same = nil_from_length b (omega (arith, same, length-append done b))
 
-  meant_read : {i : ℕ} {v : Values} {outer : List Left} {fresh : Option ℕ} {done b : List ℕ} {t : TreeV} → Known d → Begun d fresh i v outer done → NMeans d i (length done) v b t → IsRead d i (length done) (done ++ b)
+  meant_read : {i : ℕ} {v : Values} {outer : List Left} {fresh : Option ℕ} {done b : List ℕ} {t : TreeV}
+      → Known d → Begun d fresh i v outer done → NMeans d i (length done) v b t → IsRead d i (length done) (done ++ b)
   meant_read {i} {v} {done = done} {b} {t} known begun h =
       let P : ℕ → Type 0 = λ k. InEnds d i (length done % 8) (k % 8) in
       record {
@@ -95,7 +99,8 @@ module _ (d : DescV) where
 
   -- ---- and what is left of its node
 
-  module _ {i others : ℕ} {front : List ℕ} {v : Values} (done : List ℕ) {b : List ℕ} {t : TreeV} {moves : List Move} (known : Known d) (laid : IsLaid d i front others)
+  module _ {i others : ℕ} {front : List ℕ} {v : Values} (done : List ℕ) {b : List ℕ} {t : TreeV} {moves : List Move}
+      (known : Known d) (laid : IsLaid d i front others)
       (h : NMeans d i (length done) v b t) (walk : Walk d i (length done) t moves) where
     as_long : {o : ℕ} {w : Values} {c : List ℕ} {u : TreeV} → NMeans d i o w c u → length c ≡ length b
     as_long {o} {w} {c} {u} m =
@@ -120,7 +125,8 @@ module _ (d : DescV) where
     whole_replaces : Replaces d (all_left i v) none_left done b made
     whole_replaces = record { completes = on; completed = back; begins = forth; begun = home; up_old = λ place. tt; up_new = λ place. tt }
       where
-        on : (c : List ℕ) (all : List Move) → Completes d (all_left i v) done (b ++ c) all → (more : List Move) × (all ≡ made ++ more) × Completes d none_left (done ++ b) c more
+        on : (c : List ℕ) (all : List Move) → Completes d (all_left i v) done (b ++ c) all → (more : List Move)
+            × (all ≡ made ++ more) × Completes d none_left (done ++ b) c more
         on c all (completes_all u m w) =
             let none = none_behind c m in
             (Leave ∷ [], same_moves (behind_none c none) m w ∙ (opens walk).is, completes_none none refl)
@@ -147,13 +153,15 @@ module _ (d : DescV) where
 
   -- ---- the turn
 
-  module _ {S : Type 0} (takes : S → Move → Node → S → Type 0) (before after : S) (values : List Number) (pace : Pace) (old new : Coming) (i : ℕ) (frames : List Frame) where
+  module _ {S : Type 0} (takes : S → Move → Node → S → Type 0) (before after : S) (values : List Number) (pace : Pace)
+      (old new : Coming) (i : ℕ) (frames : List Frame) where
     -- these bits are read, which are a string of the node, and told
     pub whole_read : {others : ℕ} {front b : List ℕ} {stack : List Left} {done : List ℕ} (took : Bool) → Known d → IsLaid d i front others
         → ((o : ℕ) (v : Values) → (t : TreeV) × NMeans d i o v b t) → WholeTold d takes i b before after → (took ≡ false → b ≡ [])
         → old.bits ≡ b ++ new.bits → new.place ≡ old.place + length b → new.limit ≡ old.limit → new.ended ≡ old.ended
         → Stands d (state d takes before values pace old (frame.Begin i ∷ frames)) stack done
-        → GoesOn d takes (state d takes before values pace old (frame.Begin i ∷ frames)) (state d takes after values (paced took pace) new frames) before after stack done
+        → GoesOn d takes (state d takes before values pace old (frame.Begin i ∷ frames))
+        (state d takes after values (paced took pace) new frames) before after stack done
     whole_read {front = front} {b} {stack} {done} took known laid string told untaken bits place limit ended stands =
         let a = at_begin d takes before values pace old stands in
         let outer = a.stands.outer in
@@ -163,10 +171,15 @@ module _ (d : DescV) where
         let inner = a.here.begun.inner in
         let good = IsBits-append done b a.here.begun.good (known.good d i (length done) v b meant.0 meant.1) in
         let Q : ℕ → Type 0 = λ n. IsStack d n (fresh_at pace (length done)) (none_left ∷ outer) (done ++ b) in
-        let read = subst Q (sym a.here.just) (stack_node i (length done) v good a.here.begun.ready (of_read (meant_read known a.here.begun meant.1) (up_here d i)) inner) in
+        let read = subst Q (sym a.here.just) (stack_node i (length done) v good a.here.begun.ready
+        (of_read (meant_read known a.here.begun meant.1) (up_here d i)) inner) in
         let left = left_stack d (paced took pace) known (paced_stack d took pace done b untaken read) in
-        let step = passes_of old.ended (replaced d new.bits (as_many d (λ c moves h. long_enough known laid meant.1 walked.1 h)) (whole_replaces done known laid meant.1 walked.1)) in
-        let P : List Left → Type 0 = λ l. GoesOn d takes (state d takes before values pace old (frame.Begin i ∷ frames)) (state d takes after values (paced took pace) new frames) before after l done in
+        let step = passes_of old.ended
+        (replaced d new.bits (as_many d (λ c moves h. long_enough known laid meant.1 walked.1 h))
+        (whole_replaces done known laid meant.1 walked.1)) in
+        let P : List Left → Type 0 =
+        λ l. GoesOn d takes (state d takes before values pace old (frame.Begin i ∷ frames))
+        (state d takes after values (paced took pace) new frames) before after l done in
         let R : List ℕ → Type 0 = λ l. Passes d old.ended (all_left i v ∷ outer) outer done l new.bits (made done known laid meant.1 walked.1 ++ Leave ∷ []) in
         let T : List Move → Type 0 = λ l. Passes d old.ended (all_left i v ∷ outer) outer done b new.bits l in
         subst P (sym a.stands.is)
@@ -175,7 +188,8 @@ module _ (d : DescV) where
           taken = b;
           made = walked.0;
           stands = record {
-            shows = shown_behind d (done ++ b) a.stands.round (a.stands.kept ∙ ap (λ w. numbers_of d w) a.stands.seen ∙ sym (kept_behind d (done ++ b) a.stands.round laid.plain));
+            shows = shown_behind d (done ++ b) a.stands.round (a.stands.kept ∙ ap (λ w. numbers_of d w) a.stands.seen
+                ∙ sym (kept_behind d (done ++ b) a.stands.round laid.plain));
             stack_is = left;
             place = place ∙ ap (λ p. p + length b) a.here.place ∙ sym (length-append done b);
             limit = limit ∙ a.here.limit;
@@ -183,11 +197,16 @@ module _ (d : DescV) where
           };
           bits = bits;
           ended = ended;
-          steps = subst T (sym (opens walked.1).is) (subst R (append-nil b) (steps_then d b [] step (passes_of old.ended (popped d new.bits (nothing_goes d (moving d known) known.empties left)))));
+          steps = subst T (sym (opens walked.1).is)
+              (subst R (append-nil b)
+              (steps_then d b [] step
+              (passes_of old.ended (popped d new.bits (nothing_goes d (moving d known) known.empties left)))));
           tells = told (length done) v meant.0 walked.0 (around_of frames) meant.1 walked.1;
         })
       where
-        long_enough : {v : Values} {c : List ℕ} {t : TreeV} {moves all : List Move} {others : ℕ} {front : List ℕ} (known : Known d) (laid : IsLaid d i front others) (h : NMeans d i (length done) v b t) (walk : Walk d i (length done) t moves) → Completes d (all_left i v) done c all → length b ≤ length c
+        long_enough : {v : Values} {c : List ℕ} {t : TreeV} {moves all : List Move} {others : ℕ} {front : List ℕ}
+            (known : Known d) (laid : IsLaid d i front others) (h : NMeans d i (length done) v b t)
+            (walk : Walk d i (length done) t moves) → Completes d (all_left i v) done c all → length b ≤ length c
         long_enough known laid h walk (completes_all u m w) = omega (arith, as_long done known laid h walk m)
 
 -- ---- what is taken, and paid for
@@ -203,19 +222,24 @@ as_many_taken n all first long = ap (λ l. length l) first ∙ length-take-le n 
 pub none_wide : {front : List ℕ} (width : ℕ) → length front ≡ width → nat_lt 0 width ≡ false → front ≡ []
 none_wide {front} width many none = nil_from_length front (omega (arith, many, ltb-false 0 width none))
 
-pub whole_cheaper : {old_bits : ℕ} {next : Pace} (nodes new_bits i width : ℕ) (frames : List Frame) (pace : Pace) → next ≡ paced (nat_lt 0 width) pace → old_bits ≡ width + new_bits
+pub whole_cheaper : {old_bits : ℕ} {next : Pace} (nodes new_bits i width : ℕ) (frames : List Frame) (pace : Pace)
+    → next ≡ paced (nat_lt 0 width) pace → old_bits ≡ width + new_bits
     → credit_of nodes frames next new_bits < credit_of nodes (frame.Begin i ∷ frames) pace old_bits
 whole_cheaper {old_bits} {next} nodes new_bits i width frames pace paced_by sum = by (nat_lt 0 width) refl
   where
     by : (took : Bool) → nat_lt 0 width ≡ took → credit_of nodes frames next new_bits < credit_of nodes (frame.Begin i ∷ frames) pace old_bits
-    by true e = (taken_pays nodes new_bits 0 0 (frame.Begin i ∷ frames) frames pace refl (paced_by ∙ ap (λ b. paced b pace) e) sum (ltb-true 0 width e) (omega arith) (omega arith)).1
-    by false e = (same_pays nodes new_bits 0 0 (frame.Begin i ∷ frames) frames pace refl (paced_by ∙ ap (λ b. paced b pace) e) (omega (arith, sum, ltb-false 0 width e)) (omega arith) (omega arith)).1
+    by true e = (taken_pays nodes new_bits 0 0 (frame.Begin i ∷ frames) frames pace refl
+        (paced_by ∙ ap (λ b. paced b pace) e) sum (ltb-true 0 width e) (omega arith) (omega arith)).1
+    by false e = (same_pays nodes new_bits 0 0 (frame.Begin i ∷ frames) frames pace refl
+        (paced_by ∙ ap (λ b. paced b pace) e) (omega (arith, sum, ltb-false 0 width e)) (omega arith) (omega arith)).1
 
 -- ---- where nothing is read
 
-module _ {S : Type 0} (takes : S → Move → Node → S → Type 0) (i : ℕ) {machine other : Machine} {old new : Coming} (kept : other ≡ machine) (same : IsSame old new) where
+module _ {S : Type 0} (takes : S → Move → Node → S → Type 0) (i : ℕ) {machine other : Machine} {old new : Coming}
+    (kept : other ≡ machine) (same : IsSame old new) where
   -- the node begins as before
-  pub unread_stands : S → StandsSomewhere machine.plan.now (state_with (frame.Begin i) machine old) → StandsSomewhere other.plan.now (state_with (frame.Begin i) other new)
+  pub unread_stands : S → StandsSomewhere machine.plan.now (state_with (frame.Begin i) machine old)
+      → StandsSomewhere other.plan.now (state_with (frame.Begin i) other new)
   unread_stands track some =
       let P : Machine → Type 0 = λ m. StandsSomewhere m.plan.now (state_with (frame.Begin i) m new) in
       subst P (sym kept)
@@ -223,20 +247,26 @@ module _ {S : Type 0} (takes : S → Move → Node → S → Type 0) (i : ℕ) {
         known = some.known;
         stack = some.stack;
         done = some.done;
-        stands = stands_on machine.plan.now takes track track (frame.Begin i ∷ reverse machine.frames.items) machine.values.items machine.pace same some.stands;
+        stands = stands_on machine.plan.now takes track track (frame.Begin i ∷ reverse machine.frames.items)
+            machine.values.items machine.pace same some.stands;
       })
 
   -- so what is done then is done from the state before
   pub unread_turns : {before told : S} (turn : Turn) (next : StateV) (after : S) → told ≡ before
-      → Turns other.plan.now takes (state_with (frame.Begin i) other new) next told after turn → Turns machine.plan.now takes (state_with (frame.Begin i) machine old) next before after turn
+      → Turns other.plan.now takes (state_with (frame.Begin i) other new) next told after turn
+      → Turns machine.plan.now takes (state_with (frame.Begin i) machine old) next before after turn
   unread_turns {before} turn next after untold turns =
       let P : Machine → Type 0 = λ m. Turns m.plan.now takes (state_with (frame.Begin i) m new) next before after turn in
       let Q : S → Type 0 = λ s. Turns other.plan.now takes (state_with (frame.Begin i) other new) next s after turn in
-      turns_since machine.plan.now takes before after (frame.Begin i ∷ reverse machine.frames.items) machine.values.items machine.pace same next turn (subst P kept (subst Q untold turns))
+      turns_since machine.plan.now takes before after (frame.Begin i ∷ reverse machine.frames.items)
+      machine.values.items machine.pace same next turn (subst P kept (subst Q untold turns))
 
   pub unread_pays : (steps steps_after : ℕ) (turn : Turn) (next : StateV)
-      → TurnPays other.plan.now (state_with (frame.Begin i) other new) next steps steps_after turn → TurnPays machine.plan.now (state_with (frame.Begin i) machine old) next steps steps_after turn
+      → TurnPays other.plan.now (state_with (frame.Begin i) other new) next steps steps_after turn
+      → TurnPays machine.plan.now (state_with (frame.Begin i) machine old) next steps steps_after turn
   unread_pays steps steps_after turn next pays =
       let P : Machine → Type 0 = λ m. TurnPays m.plan.now (state_with (frame.Begin i) m new) next steps steps_after turn in
-      let Q : List ℕ → Type 0 = λ l. Pays (credit_of (length machine.plan.now.nodes) (frame.Begin i ∷ reverse machine.frames.items) machine.pace (length l)) (credit_in machine.plan.now next) steps steps_after turn in
+      let Q : List ℕ → Type 0 =
+      λ l. Pays (credit_of (length machine.plan.now.nodes) (frame.Begin i ∷ reverse machine.frames.items)
+      machine.pace (length l)) (credit_in machine.plan.now next) steps steps_after turn in
       subst Q same.bits (subst P kept pays)

@@ -13,7 +13,9 @@ use Rattle.csn_look.specs.Nullable.{Nullable, AllNullable}
 use Rattle.csn_look.specs.Ends.{InEnds, PartsEnd, ManyEnd}
 use Rattle.csn_look.specs.Reached.{Reached, Turn}
 use Rattle.csn_judge.specs.Remains.{Within}
-use Rattle.csn_judge.specs.Left.{Left, all_left, bits_left, symbols_left, spare_left, pad_left, rest_left, choice_left, none_left, window_left, parts_left, turns_left, free_left, cut_left, lead_left}
+use Rattle.csn_judge.specs.Left.{Left, all_left, bits_left, symbols_left, spare_left, pad_left, rest_left}
+use Rattle.csn_judge.specs.Left.{choice_left, none_left, window_left, parts_left, turns_left, free_left, cut_left}
+use Rattle.csn_judge.specs.Left.{lead_left}
 
 module _ (d : DescV) where
   -- node i, inside so many others, may begin at the place `from` with these values

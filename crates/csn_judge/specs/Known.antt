@@ -2,9 +2,16 @@
 use Rattle.csn_desc.specs.Nodes.{DescV}
 use Rattle.csn_desc.specs.Formed.{IsDescription}
 use Rattle.csn_desc.specs.Laws.{MeaningsAreBits, TreesHaveMoves, TreesHaveOneListOfMoves, ValuesHaveTheirWidth, EmptyBitsAreFollowed}
-use Rattle.csn_look.specs.Laws.{NoBitsAreOfNullable, MeantBitsEnd, BeginningsOfKeysAreFollowed, BehindPartsOfSequences, FollowedBehindPartsOfSequences, BehindPartsOfTruncations, BehindLastOfTruncations, FollowedBehindPartsOfTruncations, BehindTurns, FollowedBehindTurns, BehindFreeTurns, FollowedBehindFreeTurns, BehindAlternatives, BehindLabelledParts}
+use Rattle.csn_look.specs.Laws.{NoBitsAreOfNullable, MeantBitsEnd, BeginningsOfKeysAreFollowed}
+use Rattle.csn_look.specs.Laws.{BehindPartsOfSequences, FollowedBehindPartsOfSequences, BehindPartsOfTruncations}
+use Rattle.csn_look.specs.Laws.{BehindLastOfTruncations, FollowedBehindPartsOfTruncations, BehindTurns}
+use Rattle.csn_look.specs.Laws.{FollowedBehindTurns, BehindFreeTurns, FollowedBehindFreeTurns, BehindAlternatives}
+use Rattle.csn_look.specs.Laws.{BehindLabelledParts}
 use Rattle.csn_certify.specs.Conflicts.{Certified}
-use Rattle.csn_certify.specs.Laws.{NoBitFollowsTheLast, NoBitFollowsComponents, ChoicesTakeTheOne, FollowedTakeTheOne, RepetitionsGoOn, RepetitionsStop, FollowedStop, FreeTurnsHaveBits, ChoicesRefuseNone, FollowedRefuseNone, WaitingIsFollowed, WaitingHoldsFew, WaitingEndsInRefusal, RefusedHasNoEmptyTree}
+use Rattle.csn_certify.specs.Laws.{NoBitFollowsTheLast, NoBitFollowsComponents, ChoicesTakeTheOne, FollowedTakeTheOne}
+use Rattle.csn_certify.specs.Laws.{RepetitionsGoOn, RepetitionsStop, FollowedStop, FreeTurnsHaveBits}
+use Rattle.csn_certify.specs.Laws.{ChoicesRefuseNone, FollowedRefuseNone, WaitingIsFollowed, WaitingHoldsFew}
+use Rattle.csn_certify.specs.Laws.{WaitingEndsInRefusal, RefusedHasNoEmptyTree}
 
 pub record Known (d : DescV) : Type 0 where
   pub description : IsDescription d

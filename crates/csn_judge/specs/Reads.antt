@@ -57,7 +57,8 @@ module _ (d : DescV) (next : ℕ) (fresh : Option ℕ) where
     pub limit : coming.limit ≡ limit_in outer
     pub owed : AreOwed outer done coming.bits
 
-  module _ {S : Type 0} (takes : S → Move → Node → S → Type 0) (node : Node) (old new : Coming) (before after : S) (left : Left) (outer : List Left) (done : List ℕ) where
+  module _ {S : Type 0} (takes : S → Move → Node → S → Type 0) (node : Node) (old new : Coming) (before after : S)
+      (left : Left) (outer : List Left) (done : List ℕ) where
     -- some bits are taken, and this is left
     pub record Takes (now : Left) : Type 0 where
       pub taken : List ℕ

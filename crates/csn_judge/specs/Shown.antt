@@ -16,7 +16,9 @@ use Rattle.csn_judge.specs.declared.frame.Counted.{Counted as CountedFrame}
 use Rattle.csn_judge.specs.declared.leaf.Leaf.{Leaf}
 use Rattle.csn_judge.specs.declared.leaf.Leaf.TheVariants as leaf
 use Rattle.csn_certify.specs.declared.numbers.Number.{Number}
-use Rattle.csn_judge.specs.Left.{Left, all_left, bits_left, symbols_left, spare_left, pad_left, rest_left, choice_left, none_left, window_left, parts_left, turns_left, free_left, cut_left, lead_left, behind}
+use Rattle.csn_judge.specs.Left.{Left, all_left, bits_left, symbols_left, spare_left, pad_left, rest_left}
+use Rattle.csn_judge.specs.Left.{choice_left, none_left, window_left, parts_left, turns_left, free_left, cut_left}
+use Rattle.csn_judge.specs.Left.{lead_left, behind}
 
 -- the values that a part sees which is read inside these open nodes
 abbrev pub seen_in : List Left → Values

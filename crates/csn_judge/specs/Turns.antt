@@ -1,5 +1,6 @@
 -- What a turn of the machine does. (This project's own choice.)
-use Rattle.std.specs.Prelude.{◌≡◌, ℕ, suc, ◌+◌, ◌<◌, ◌≤◌, ◌⊎◌, ⊤, ◌||◌, nat_lt, true, false, if◌then◌else◌, List, [], ◌∷◌, ◌++◌, length, reverse, Option, Some, None, slice_get}
+use Rattle.std.specs.Prelude.{◌≡◌, ℕ, suc, ◌+◌, ◌<◌, ◌≤◌, ◌⊎◌, ⊤, ◌||◌, nat_lt, true, false, if◌then◌else◌, List, []}
+use Rattle.std.specs.Prelude.{◌∷◌, ◌++◌, length, reverse, Option, Some, None, slice_get}
 use Rattle.csn_desc.specs.declared.moves.Move.{Move}
 use Rattle.csn_desc.specs.declared.moves.Move.TheVariants.{Enter}
 use Rattle.csn_desc.specs.declared.node.Node.{Node}
@@ -102,7 +103,13 @@ turn_of_part (part.Turn turn) = turn
 -- the state where a part begins, and this frame goes on behind it
 abbrev pub state_begun : ℕ → Frame → Machine → Coming → StateV
 state_begun part behind machine coming =
-    record { frames = frame.Begin part ∷ behind ∷ reverse machine.frames.items; values = machine.values.items; pace = begun_by part machine.pace; coming = coming }
+    record {
+      frames = frame.Begin part ∷ behind ∷ reverse machine.frames.items;
+      values = machine.values.items;
+      pace =
+          begun_by part machine.pace;
+      coming = coming;
+    }
 
 -- the state behind a turn: the node that begins next is innermost
 abbrev pub state_then : Next → Machine → Coming → StateV

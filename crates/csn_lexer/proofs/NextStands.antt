@@ -1,11 +1,15 @@
 -- From each place of a text on something stands next: a token, a byte that begins none, or the end.
-use Rattle.std.proofs.Common.{◌≡◌, ℕ, zero, suc, ◌+◌, ◌-◌, ◌<◌, ◌≤◌, Bool, true, false, ◌⊎◌, inl, inr, List, [], ◌∷◌, length, slice_get, slice_index, slice_range, Option, Some, None, Result, Ok, Err, codes, refl, sym, ◌∙◌, ap, subst, arith, eqb-true}
+use Rattle.std.proofs.Common.{◌≡◌, ℕ, zero, suc, ◌+◌, ◌-◌, ◌<◌, ◌≤◌, Bool, true, false, ◌⊎◌, inl, inr, List, [], ◌∷◌}
+use Rattle.std.proofs.Common.{length, slice_get, slice_index, slice_range, Option, Some, None, Result, Ok, Err, codes}
+use Rattle.std.proofs.Common.{refl, sym, ◌∙◌, ap, subst, arith, eqb-true}
 use Rattle.std.specs.Prelude.{if◌then◌else◌, nat_eq, IsFalse}
 use Rattle.std.proofs.lemmas.Bool.{cases_Bool, cases_lt, cases_eq, and_parts}
 use Rattle.std.proofs.lemmas.Option.{slice_get-get_or}
 use Rattle.csn_lexer.specs.declared.gap.TheConstants.{LINE_FEED}
 use Rattle.csn_lexer.specs.declared.token.TokenKind.{TokenKind}
-use Rattle.csn_lexer.specs.declared.token.TokenKind.TheVariants.{Less, Greater, Colon, Define, Semicolon, BraceLeft, BraceRight, Bar, Bang, Ampersand, Equal, ParenLeft, ParenRight, Star, StarStar, SlashSlash, Plus, Word}
+use Rattle.csn_lexer.specs.declared.token.TokenKind.TheVariants.{Less, Greater, Colon, Define, Semicolon, BraceLeft}
+use Rattle.csn_lexer.specs.declared.token.TokenKind.TheVariants.{BraceRight, Bar, Bang, Ampersand, Equal, ParenLeft}
+use Rattle.csn_lexer.specs.declared.token.TokenKind.TheVariants.{ParenRight, Star, StarStar, SlashSlash, Plus, Word}
 use Rattle.csn_lexer.specs.declared.token.Token.{Token}
 use Rattle.csn_lexer.specs.declared.token.LexFault.{LexFault}
 use Rattle.csn_lexer.specs.Word.{is_word}
@@ -29,7 +33,9 @@ same_is (x ∷ xs) (y ∷ ys) h =
     cc
 
 -- the kind that a choice gives is spelled so
-chosen : (bytes : List ℕ) (l : TokenKind) (b : Bool) (k : TokenKind) (other : Option TokenKind) → (if b then Some k else other) ≡ Some l → (b ≡ true → IsSpelled k bytes) → (other ≡ Some l → IsSpelled l bytes) → IsSpelled l bytes
+chosen : (bytes : List ℕ) (l : TokenKind) (b : Bool) (k : TokenKind) (other : Option TokenKind)
+    → (if b then Some k else other) ≡ Some l → (b ≡ true → IsSpelled k bytes) → (other ≡ Some l → IsSpelled l bytes)
+    → IsSpelled l bytes
 chosen bytes l true k other e first second =
     let is : k ≡ l = cc in let P : TokenKind → Type 0 = λ m. IsSpelled m bytes in subst P is (first refl)
 chosen bytes l false k other e first second = second e
@@ -73,7 +79,8 @@ abbrev NoneFrom : List ℕ → ℕ → ℕ → Type 0
 NoneFrom text at end = (m : ℕ) → end < m → m ≤ length text → (k : TokenKind) → ¬ IsSpelled k (slice_range text at m)
 
 -- one place less to look at
-one_fewer : (text : List ℕ) (at many : ℕ) → NoneFrom text at (at + suc many) → kind_of (slice_range text at (at + suc many)) ≡ None → NoneFrom text at (at + many)
+one_fewer : (text : List ℕ) (at many : ℕ) → NoneFrom text at (at + suc many)
+    → kind_of (slice_range text at (at + suc many)) ≡ None → NoneFrom text at (at + many)
 one_fewer text at many further e m past few = elim (cases_eq m (at + suc many)) [
   | inl here ↦ (
       let P : ℕ → Type 0 = λ n. (k : TokenKind) → ¬ IsSpelled k (slice_range text at n) in
@@ -81,7 +88,10 @@ one_fewer text at many further e m past few = elim (cases_eq m (at + suc many)) 
   | inr other ↦ further m (omega arith) few
 ]
 
-token_here : (text : List ℕ) (at end : ℕ) → at < end → end ≤ length text → NoneFrom text at end → (o : Option TokenKind) → kind_of (slice_range text at end) ≡ o → (kind_of (slice_range text at end) ≡ None → TokenAt text at ⊎ BeginsNoToken text at) → TokenAt text at ⊎ BeginsNoToken text at
+token_here : (text : List ℕ) (at end : ℕ) → at < end → end ≤ length text → NoneFrom text at end
+    → (o : Option TokenKind) → kind_of (slice_range text at end) ≡ o
+    → (kind_of (slice_range text at end) ≡ None → TokenAt text at ⊎ BeginsNoToken text at)
+    → TokenAt text at ⊎ BeginsNoToken text at
 token_here text at end some within further None e later = later e
 token_here text at end some within further (Some k) e later = inl (record {
   token = record { kind = k; start = at; end = end };
@@ -143,11 +153,19 @@ record GapEnd (text : List ℕ) (at : ℕ) : Type 0 where
 comment_or_not : (text : List ℕ) (at : ℕ) → BeginsComment text at ⊎ (BeginsComment text at → ⊥)
 comment_or_not text at = elim (cases_Bool (same (slice_range text at (at + 2)) (codes "--"))) [
   | inl is ↦ inl (same_is (slice_range text at (at + 2)) (codes "--") is)
-  | inr other ↦ inr (λ begins. (let is : same (slice_range text at (at + 2)) (codes "--") ≡ true = ap (λ b. same b (codes "--")) begins in let clash : true ≡ false = sym is ∙ other in cc))
+  | inr other ↦ inr (λ begins. (let is : same (slice_range text at (at + 2)) (codes "--") ≡ true =
+      ap (λ b. same b (codes "--")) begins in let clash : true ≡ false = sym is ∙ other in cc))
 ]
 
 gap_then : (text : List ℕ) (at mid : ℕ) → at ≤ mid → IsGap text at mid → GapEnd text mid → GapEnd text at
-gap_then text at mid low gap rest = record { end = rest.end; from = omega (arith, rest.from); within = rest.within; gap = join_gaps gap rest.gap; stops = rest.stops }
+gap_then text at mid low gap rest = record {
+  end = rest.end;
+  from = omega (arith, rest.from);
+  within =
+      rest.within;
+  gap = join_gaps gap rest.gap;
+  stops = rest.stops;
+}
 
 gap_end : (text : List ℕ) (fuel at : ℕ) → at ≤ length text → length text - at < fuel → GapEnd text at
 gap_end text zero at within few = absurd (omega arith)
@@ -167,7 +185,8 @@ gap_end text (suc fuel) at within few = elim (cases_lt at (length text)) [
 
 -- ---- what stands next
 
-token_next : {text : List ℕ} {at : ℕ} (g : GapEnd text at) → g.end < length text → TokenAt text g.end ⊎ BeginsNoToken text g.end → (next : Result (Option Token) LexFault) × IsNext text at next
+token_next : {text : List ℕ} {at : ℕ} (g : GapEnd text at) → g.end < length text → TokenAt text g.end
+    ⊎ BeginsNoToken text g.end → (next : Result (Option Token) LexFault) × IsNext text at next
 token_next {text} {at} g inside (inl here) =
     (Ok (Some here.token), (subst (IsGap text at) (sym here.starts) g.gap, here.longest))
 token_next g inside (inr nothing) =

@@ -3,7 +3,9 @@ use Rattle.std.proofs.Common.{◌≡◌, ℕ, Bool, true, false, ◌&&◌, List,
 use Rattle.std.specs.Prelude.{if◌then◌else◌, nat_eq}
 use Rattle.std.proofs.lemmas.Bool.{and_parts}
 use Rattle.csn_lexer.specs.declared.token.TokenKind.{TokenKind}
-use Rattle.csn_lexer.specs.declared.token.TokenKind.TheVariants.{Less, Greater, Colon, Define, Semicolon, BraceLeft, BraceRight, Bar, Bang, Ampersand, Equal, ParenLeft, ParenRight, Star, StarStar, SlashSlash, Plus, Word}
+use Rattle.csn_lexer.specs.declared.token.TokenKind.TheVariants.{Less, Greater, Colon, Define, Semicolon, BraceLeft}
+use Rattle.csn_lexer.specs.declared.token.TokenKind.TheVariants.{BraceRight, Bar, Bang, Ampersand, Equal, ParenLeft}
+use Rattle.csn_lexer.specs.declared.token.TokenKind.TheVariants.{ParenRight, Star, StarStar, SlashSlash, Plus, Word}
 use Rattle.csn_lexer.specs.Word.{begins_word, is_word, is_word_tail}
 use Rattle.csn_lexer.specs.Spelling.{IsSpelled}
 

@@ -2,7 +2,9 @@
 -- use in TS 44.060 clause 11 (`!`, `//`); words are this project's choice.
 use Rattle.std.specs.Prelude.{◌≡◌, ℕ, List, codes}
 use Rattle.csn_lexer.specs.declared.token.TokenKind.{TokenKind}
-use Rattle.csn_lexer.specs.declared.token.TokenKind.TheVariants.{Less, Greater, Colon, Define, Semicolon, BraceLeft, BraceRight, Bar, Bang, Ampersand, Equal, ParenLeft, ParenRight, Star, StarStar, SlashSlash, Plus, Word}
+use Rattle.csn_lexer.specs.declared.token.TokenKind.TheVariants.{Less, Greater, Colon, Define, Semicolon, BraceLeft}
+use Rattle.csn_lexer.specs.declared.token.TokenKind.TheVariants.{BraceRight, Bar, Bang, Ampersand, Equal, ParenLeft}
+use Rattle.csn_lexer.specs.declared.token.TokenKind.TheVariants.{ParenRight, Star, StarStar, SlashSlash, Plus, Word}
 use Rattle.csn_lexer.specs.Word.{IsWord}
 
 -- the bytes are a token of this kind

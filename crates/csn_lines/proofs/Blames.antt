@@ -15,7 +15,8 @@ ok_not_err is = true≢false (ap is_ok is)
 -- of lines that were all answered nothing is to blame
 pub blames_none :
     {T : Type 0} {x : T} {ended : Ended} {steady steady' sink_steady sink_steady' : Type 0} {faults faults' sink_faults sink_faults' : ℕ}
-    → Keeps steady steady' faults faults' (◌≡◌ {A = Result T Fault} (Ok x) (Err Read)) → Keeps sink_steady sink_steady' sink_faults sink_faults' (◌≡◌ {A = Result T Fault} (Ok x) (Err Write))
+    → Keeps steady steady' faults faults' (◌≡◌ {A = Result T Fault} (Ok x) (Err Read))
+    → Keeps sink_steady sink_steady' sink_faults sink_faults' (◌≡◌ {A = Result T Fault} (Ok x) (Err Write))
     → BlamesStreams (Ok ended) steady steady' faults faults' sink_steady sink_steady' sink_faults sink_faults'
 blames_none input out = record {
   read = λ e. absurd (ok_not_err e);
@@ -31,8 +32,10 @@ one_fault {met = met} {fault = fault} is e = let same : met ≡ fault = cc in ap
 -- a job that is over by the fault that its lines met
 pub blames_same :
     {T : Type 0} {met : Fault} {end : Result Ended Fault} {steady steady' sink_steady sink_steady' : Type 0} {faults faults' sink_faults sink_faults' : ℕ}
-    → end ≡ Err met → (◌≡◌ {A = Result T Fault} (Err met) (Err Read) → Rose faults faults') → (◌≡◌ {A = Result T Fault} (Err met) (Err Write) → Rose sink_faults sink_faults')
-    → Keeps steady steady' faults faults' (◌≡◌ {A = Result T Fault} (Err met) (Err Read)) → Keeps sink_steady sink_steady' sink_faults sink_faults' (◌≡◌ {A = Result T Fault} (Err met) (Err Write))
+    → end ≡ Err met → (◌≡◌ {A = Result T Fault} (Err met) (Err Read) → Rose faults faults')
+    → (◌≡◌ {A = Result T Fault} (Err met) (Err Write) → Rose sink_faults sink_faults')
+    → Keeps steady steady' faults faults' (◌≡◌ {A = Result T Fault} (Err met) (Err Read))
+    → Keeps sink_steady sink_steady' sink_faults sink_faults' (◌≡◌ {A = Result T Fault} (Err met) (Err Write))
     → BlamesStreams end steady steady' faults faults' sink_steady sink_steady' sink_faults sink_faults'
 blames_same is read write input out = record {
   read = λ e. read (one_fault is e);

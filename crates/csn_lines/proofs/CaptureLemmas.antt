@@ -1,5 +1,7 @@
 -- How the open line of a capture is taken: its head, and of its block what the writers of the entries have taken.
-use Rattle.std.proofs.Common.{◌≡◌, ◌≢◌, ℕ, zero, suc, ◌+◌, ◌<◌, ◌≤◌, Result, Ok, Err, Bool, eqb, true, false, ◌⊎◌, inl, inr, List, [], ◌∷◌, ◌++◌, length, drop, take, set, map, not, Option, Some, None, get_or, slice_get, codes, refl, sym, ap, subst, ◌∙◌, arith, append_assoc}
+use Rattle.std.proofs.Common.{◌≡◌, ◌≢◌, ℕ, zero, suc, ◌+◌, ◌<◌, ◌≤◌, Result, Ok, Err, Bool, eqb, true, false, ◌⊎◌}
+use Rattle.std.proofs.Common.{inl, inr, List, [], ◌∷◌, ◌++◌, length, drop, take, set, map, not, Option, Some, None}
+use Rattle.std.proofs.Common.{get_or, slice_get, codes, refl, sym, ap, subst, ◌∙◌, arith, append_assoc}
 use Rattle.std.specs.Option.{option_map}
 use Rattle.std.specs.Prelude.{if◌then◌else◌}
 use Rattle.std.specs.Result.{is_err, is_ok}
@@ -65,7 +67,8 @@ pub fresh_nil : AreFresh []
 fresh_nil place x is = absurd (nothing_at place x is)
 
 -- the descriptions of the first ones
-pub descs_push : (writers : List LineV) (writer : LineV) (plans : List DescV) (count : ℕ) (plan : DescV) → map desc_of writers ≡ take count plans → count < length plans
+pub descs_push : (writers : List LineV) (writer : LineV) (plans : List DescV) (count : ℕ) (plan : DescV)
+    → map desc_of writers ≡ take count plans → count < length plans
     → plan ≡ get_or plans count plan → writer.desc ≡ plan → map desc_of (writers ++ writer ∷ []) ≡ take (count + 1) plans
 descs_push writers writer plans count plan before within is same =
     let next : count + 1 ≡ suc count = omega arith in
@@ -94,7 +97,8 @@ texts_set writers at new are is place x here = elim (at_set writers at place new
   | inr other ↦ are place x other.1
 ]
 
-pub descs_set : (writers : List LineV) (at : ℕ) (old new : LineV) → slice_get writers at ≡ Some old → new.desc ≡ old.desc → map desc_of (set writers at new) ≡ map desc_of writers
+pub descs_set : (writers : List LineV) (at : ℕ) (old new : LineV) → slice_get writers at ≡ Some old
+    → new.desc ≡ old.desc → map desc_of (set writers at new) ≡ map desc_of writers
 descs_set [] at old new is same = absurd (cc)
 descs_set (w ∷ writers) zero old new is same =
     let here : w ≡ old = cc in ap (λ (d : DescV). d ∷ map desc_of writers) (same ∙ ap desc_of (sym here))
@@ -133,16 +137,23 @@ taken_few (Block entry) line place = elim (cases_Bool (eqb place (entry_place en
 taken_few Missing line place = omega arith
 
 -- a writer that was read out
-pub writer_at : (writers : List LineV) (place : ℕ) (writer : LineV) → place < length writers → writer ≡ get_or writers place writer → slice_get writers place ≡ Some writer
+pub writer_at : (writers : List LineV) (place : ℕ) (writer : LineV)
+    → place < length writers → writer ≡ get_or writers place writer → slice_get writers place ≡ Some writer
 writer_at writers place writer within is = slice_get_read writers (length writers) place writer refl within is
 
 -- where one of the seven writers was read out and writes on in the same form, they are seven, and write texts
-pub seven_texts : (writers : List LineV) (place : ℕ) (old new : LineV) → length writers ≡ 7 → place < 7 → old ≡ get_or writers place old → new.form ≡ old.form → AreTexts writers → (length (set writers place new) ≡ 7) × AreTexts (set writers place new)
-seven_texts writers place old new seven within is same are =
-    (length-set writers place new ∙ seven, texts_set writers place new are (same ∙ are place old (writer_at writers place old (omega (arith, within, seven)) is)))
+pub seven_texts : (writers : List LineV) (place : ℕ) (old new : LineV) → length writers ≡ 7 → place < 7
+    → old ≡ get_or writers place old → new.form ≡ old.form → AreTexts writers → (length (set writers place new) ≡ 7)
+    × AreTexts (set writers place new)
+seven_texts writers place old new seven within is same are = (
+  length-set writers place new ∙ seven,
+  texts_set writers place new are
+      (same ∙ are place old (writer_at writers place old (omega (arith, within, seven)) is)),
+)
 
 -- where it writes on by the same description, the descriptions are those that they had
-pub same_descs : (writers : List LineV) (place : ℕ) (old new : LineV) → length writers ≡ 7 → place < 7 → old ≡ get_or writers place old → new.desc ≡ old.desc → map desc_of (set writers place new) ≡ map desc_of writers
+pub same_descs : (writers : List LineV) (place : ℕ) (old new : LineV) → length writers ≡ 7 → place < 7
+    → old ≡ get_or writers place old → new.desc ≡ old.desc → map desc_of (set writers place new) ≡ map desc_of writers
 same_descs writers place old new seven within is same =
     descs_set writers place old new (writer_at writers place old (omega (arith, within, seven)) is) same
 
@@ -150,7 +161,8 @@ same_descs writers place old new seven within is same =
 module _ (tells : HeadsTellCaptures) (line more : List ℕ) (entry : Entry) (head : HeadOf (Block entry) (line ++ more)) where
   same_entry : (before : Entry) → HeadOf (Block before) line → before ≡ entry
   same_entry before (block, is) =
-      let longer : line ++ more ≡ entry_word before ++ 32 ∷ (block ++ more) = ap (λ (l : List ℕ). l ++ more) is ∙ append_assoc (entry_word before) (32 ∷ block) more in
+      let longer : line ++ more ≡ entry_word before ++ 32 ∷ (block ++ more) = ap (λ (l : List ℕ). l ++ more) is
+      ∙ append_assoc (entry_word before) (32 ∷ block) more in
       ((tells (Block entry) (line ++ more) head).only before (length (entry_word before) + 1) (block ++ more, longer, refl)).0
 
   taken_here : (before : CaptureHead) → HeadOf before line → taken_at before line (entry_place entry) ≡ block_so_far before line
@@ -182,11 +194,14 @@ module _ (tells : HeadsTellCaptures) (line more : List ℕ) (entry : Entry) (hea
     head_is = head;
     each = λ place writer is. elim (at_set writers (entry_place entry) place new writer is) [
       | inl changed ↦
-          let took = takes (block_so_far before line) (subst (λ (l : List ℕ). ReadsLine old l) (taken_here before reads.head_is) (reads.each (entry_place entry) old here)) in
+          let took = takes (block_so_far before line) (subst (λ (l : List ℕ). ReadsLine old l)
+          (taken_here before reads.head_is) (reads.each (entry_place entry) old here)) in
           let now = subst (λ (l : List ℕ). ReadsLine new l) (sym block ∙ sym now_here) took in
-          subst (λ (w : LineV). ReadsLine w (taken_at (Block entry) (line ++ more) place)) changed.1 (subst (λ (n : ℕ). ReadsLine new (taken_at (Block entry) (line ++ more) n)) (sym changed.0) now)
+          subst (λ (w : LineV). ReadsLine w (taken_at (Block entry) (line ++ more) place)) changed.1
+          (subst (λ (n : ℕ). ReadsLine new (taken_at (Block entry) (line ++ more) n)) (sym changed.0) now)
       | inr other ↦
-          subst (λ (l : List ℕ). ReadsLine writer l) (taken_there before reads.head_is place other.0 ∙ sym (now_there place other.0)) (reads.each place writer other.1)
+          subst (λ (l : List ℕ). ReadsLine writer l) (taken_there before reads.head_is place other.0 ∙ sym
+          (now_there place other.0)) (reads.each place writer other.1)
     ];
   }
 
@@ -203,11 +218,17 @@ reads_as writers before after line now reads head none still = record {
       subst (λ (l : List ℕ). ReadsLine writer l) (taken_none before line place none ∙ sym (taken_none after now place still)) (reads.each place writer is);
 }
 
-pub head_goes_on : (writers : List LineV) (before after : CaptureHead) (line bytes behind : List ℕ) → ReadsCapture writers before line → HeadOf after (line ++ bytes)
-    → block_so_far after (line ++ bytes) ≡ block_so_far before line ++ behind → ((entry : Entry) → after ≡ Block entry → ⊥) → ReadsCapture writers after (line ++ bytes)
-head_goes_on writers before (Word word) line bytes behind reads head block not_block = reads_as writers before (Word word) line (line ++ bytes) reads head (no_bytes (block_so_far before line) behind block) refl
+pub head_goes_on : (writers : List LineV) (before after : CaptureHead) (line bytes behind : List ℕ)
+    → ReadsCapture writers before line → HeadOf after (line ++ bytes)
+    → block_so_far after (line ++ bytes) ≡ block_so_far before line ++ behind
+    → ((entry : Entry) → after ≡ Block entry → ⊥) → ReadsCapture writers after (line ++ bytes)
+head_goes_on writers before (Word word) line bytes behind reads head block not_block =
+    reads_as writers before (Word word) line (line ++ bytes) reads head
+    (no_bytes (block_so_far before line) behind block) refl
 head_goes_on writers before (Block entry) line bytes behind reads head block not_block = absurd (not_block entry refl)
-head_goes_on writers before Missing line bytes behind reads head block not_block = reads_as writers before Missing line (line ++ bytes) reads head (no_bytes (block_so_far before line) behind block) refl
+head_goes_on writers before Missing line bytes behind reads head block not_block =
+    reads_as writers before Missing line (line ++ bytes) reads head (no_bytes (block_so_far before line) behind block)
+    refl
 
 -- ---- the next line
 
@@ -217,16 +238,19 @@ begins_fresh writers head fresh is = record {
   each = λ place writer here. subst (λ (l : List ℕ). ReadsLine writer l) (sym (taken_none head [] place (block_nil head))) (fresh place writer here);
 }
 
-pub begins_behind : (writers : List LineV) (entry : Entry) (line : List ℕ) (head : CaptureHead) (new : LineV) → ReadsCapture writers (Block entry) line → HeadOf head []
+pub begins_behind : (writers : List LineV) (entry : Entry) (line : List ℕ) (head : CaptureHead) (new : LineV)
+    → ReadsCapture writers (Block entry) line → HeadOf head []
     → ReadsLine new [] → ReadsCapture (set writers (entry_place entry) new) head []
-begins_behind writers entry line head new reads is anew = begins_fresh (set writers (entry_place entry) new) head (λ place writer here. elim (at_set writers (entry_place entry) place new writer here) [
-  | inl changed ↦ subst (λ (w : LineV). ReadsLine w []) changed.1 anew
-  | inr other ↦
-      let none : taken_at (Block entry) line place ≡ [] = rw (eqb_other place (entry_place entry) other.0) refl in
-      subst (λ (l : List ℕ). ReadsLine writer l) none (reads.each place writer other.1)
-]) is
+begins_behind writers entry line head new reads is anew = begins_fresh (set writers (entry_place entry) new) head
+    (λ place writer here. elim (at_set writers (entry_place entry) place new writer here) [
+      | inl changed ↦ subst (λ (w : LineV). ReadsLine w []) changed.1 anew
+      | inr other ↦
+          let none : taken_at (Block entry) line place ≡ [] = rw (eqb_other place (entry_place entry) other.0) refl in
+          subst (λ (l : List ℕ). ReadsLine writer l) none (reads.each place writer other.1)
+    ]) is
 
-pub begins_after : (writers : List LineV) (before head : CaptureHead) (line : List ℕ) → ReadsCapture writers before line → ((entry : Entry) → before ≡ Block entry → ⊥) → HeadOf head []
+pub begins_after : (writers : List LineV) (before head : CaptureHead) (line : List ℕ)
+    → ReadsCapture writers before line → ((entry : Entry) → before ≡ Block entry → ⊥) → HeadOf head []
     → ReadsCapture writers head []
 begins_after writers (Word word) head line reads not_block is = reads_as writers (Word word) head line [] reads is refl (block_nil head)
 begins_after writers (Block entry) head line reads not_block is = absurd (not_block entry refl)
@@ -235,31 +259,38 @@ begins_after writers Missing head line reads not_block is = reads_as writers Mis
 -- ---- what a line is answered
 
 -- where it is of no entry
-pub answers_none : HeadsTellCaptures → (plans : List DescV) (head : CaptureHead) (line : List ℕ) → HeadOf head line → ((entry : Entry) → head ≡ Block entry → ⊥)
+pub answers_none : HeadsTellCaptures → (plans : List DescV) (head : CaptureHead) (line : List ℕ)
+    → HeadOf head line → ((entry : Entry) → head ≡ Block entry → ⊥)
     → CaptureLineBy plans line (codes "bad 5") None
 answers_none tells plans (Word word) line is not_block rules reading compiled = no_capture (tells (Word word) line is) refl refl
 answers_none tells plans (Block entry) line is not_block rules reading compiled = absurd (not_block entry refl)
 answers_none tells plans Missing line is not_block rules reading compiled = no_capture (tells Missing line is) refl refl
 
-desc_at : (writers : List LineV) (place : ℕ) (writer : LineV) (default : DescV) → slice_get writers place ≡ Some writer → get_or (map desc_of writers) place default ≡ writer.desc
+desc_at : (writers : List LineV) (place : ℕ) (writer : LineV) (default : DescV)
+    → slice_get writers place ≡ Some writer → get_or (map desc_of writers) place default ≡ writer.desc
 desc_at [] place writer default is = absurd (cc)
 desc_at (w ∷ writers) zero writer default is = (let here : w ≡ writer = cc in ap desc_of here)
 desc_at (w ∷ writers) (suc place) writer default is = desc_at writers place writer default is
 
-compiled_for : (writers : List LineV) (entry : Entry) (writer : LineV) → slice_get writers (entry_place entry) ≡ Some writer → (rules : RulesV) (reading : Reading)
+compiled_for : (writers : List LineV) (entry : Entry) (writer : LineV)
+    → slice_get writers (entry_place entry) ≡ Some writer → (rules : RulesV) (reading : Reading)
     → AreCompiled rules reading all_entries (map desc_of writers) → IsCompiled catalogue_text (entry_root entry) reading rules writer.desc
 compiled_for writers entry writer here rules reading compiled =
     subst (λ (d : DescV). IsCompiled catalogue_text (entry_root entry) reading rules d) (desc_at writers (entry_place entry) writer writer.desc here)
     (compiled_at reading rules all_entries (map desc_of writers) (entry_place entry) entry writer.desc compiled (stands_at entry))
 
 -- by the description of its entry
-pub answers_block : (writers : List LineV) (entry : Entry) (writer : LineV) (line answer : List ℕ) (bits : Option ℕ) (answered : Answered) → slice_get writers (entry_place entry) ≡ Some writer
-    → IsOnlyCapture line entry (length (entry_word entry) + 1) → ShowsAs Text writer.desc (block_so_far (Block entry) line) answer bits → is_refused answered ≡ is_refusal answer
+pub answers_block : (writers : List LineV) (entry : Entry) (writer : LineV) (line answer : List ℕ) (bits : Option ℕ)
+    (answered : Answered) → slice_get writers (entry_place entry) ≡ Some writer
+    → IsOnlyCapture line entry (length (entry_word entry) + 1)
+    → ShowsAs Text writer.desc (block_so_far (Block entry) line) answer bits
+    → is_refused answered ≡ is_refusal answer
     → CaptureLineBy (map desc_of writers) line answer (option_map (λ n. record { entry = entry; bits = n; ok = not (is_refused answered) }) bits)
 answers_block writers entry writer line answer (Some n) answered here capture (block, spells, count, shows) refused rules reading compiled =
     captures_block entry (length (entry_word entry) + 1) block capture.capture spells
     (shows catalogue_text rules (entry_root entry) reading (compiled_for writers entry writer here rules reading compiled))
-    (ap (λ (n : ℕ). Some (record { entry = entry; bits = n; ok = not (is_refused answered) })) count ∙ ap (λ (b : Bool). Some (record { entry = entry; bits = length block; ok = not b })) refused)
+    (ap (λ (n : ℕ). Some (record { entry = entry; bits = n; ok = not (is_refused answered) })) count ∙ ap
+    (λ (b : Bool). Some (record { entry = entry; bits = length block; ok = not b })) refused)
 answers_block writers entry writer line answer None answered here capture (fault, is, text) refused rules reading compiled =
     captures_fault entry (length (entry_word entry) + 1) fault capture.capture is text refl
 

@@ -44,7 +44,10 @@ or_else line entry others = elim (begins_or_not (entry_word entry) line) [
 
 entry_or_none : (line : List ℕ) → HasEntry line ⊎ ((entry : Entry) → Begins (entry_word entry) line → ⊥)
 entry_or_none line =
-    elim (or_else line Uplink (or_else line Downlink (or_else line Si1 (or_else line Si3 (or_else line Si4 (or_else line Si13 (or_else line Ia {Others = ⊤} (inr tt)))))))) [
+    elim (or_else line Uplink
+    (or_else line Downlink
+    (or_else line Si1
+    (or_else line Si3 (or_else line Si4 (or_else line Si13 (or_else line Ia {Others = ⊤} (inr tt)))))))) [
       | inl has ↦ inl has
       | inr (a, (b, (c, (d, (e, (f, (g, rest))))))) ↦ inr (each_entry (λ entry. Begins (entry_word entry) line → ⊥) a b c d e f g)
     ]
@@ -57,6 +60,7 @@ capture_or_none line = elim (entry_or_none line) [
 
 -- ---- and no other
 
-pub one_capture : HeadsTellCaptures → {line : List ℕ} {entry other : Entry} {at at' : ℕ} → IsCapture line entry at → IsCapture line other at' → (entry ≡ other) × (at ≡ at')
+pub one_capture : HeadsTellCaptures → {line : List ℕ} {entry other : Entry} {at at' : ℕ}
+    → IsCapture line entry at → IsCapture line other at' → (entry ≡ other) × (at ≡ at')
 one_capture tells {line} {entry} {other} {at} is has =
     let same = (tells (Block other) line (has.0, has.1)).only entry at is in (same.0, same.1 ∙ sym has.2)

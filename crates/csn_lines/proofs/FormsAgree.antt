@@ -32,7 +32,8 @@ not_a_fault BadLength text e = let first : 111 ≡ 98 = ap (λ w. slice_index w 
 not_a_fault BadFill text e = let first : 111 ≡ 98 = ap (λ w. slice_index w 0) e in omega (arith, first)
 not_a_fault TooManyBits text e = let first : 111 ≡ 98 = ap (λ w. slice_index w 0) e in omega (arith, first)
 
-pub told : (form : TreeForm) (rules : RulesV) (name : List ℕ) (reading : Reading) (line text : List ℕ) → Tells form rules name reading line text → Told form rules name reading line text
+pub told : (form : TreeForm) (rules : RulesV) (name : List ℕ) (reading : Reading) (line text : List ℕ)
+    → Tells form rules name reading line text → Told form rules name reading line text
 told form rules name reading line text (shows_block block spells (shows_tree t written string shown e)) =
     let same : written ≡ text = cc in
     record { block = block; tree = t; spells = spells; string = string; shown = subst (λ w. IsShown form t w) same shown }
@@ -41,7 +42,9 @@ told form rules name reading line text (shows_block block spells (shows_place pl
 told form rules name reading line text (shows_fault fault is e) =
     absurd (not_a_fault is.0 text (e ∙ ap fault_text is.2))
 
-in_other : (form other : TreeForm) (rules : RulesV) (name : List ℕ) (reading : Reading) (line : List ℕ) → (text : List ℕ) × Tells form rules name reading line text → (text : List ℕ) × Tells other rules name reading line text
+in_other : (form other : TreeForm) (rules : RulesV) (name : List ℕ) (reading : Reading) (line : List ℕ)
+    → (text : List ℕ) × Tells form rules name reading line text → (text : List ℕ)
+    × Tells other rules name reading line text
 in_other form other rules name reading line (text, is) =
     let t = told form rules name reading line text is in
     let written = shown_text other t.tree (shown_fits form t.tree text t.shown) (shown_parts form t.tree text t.shown) in

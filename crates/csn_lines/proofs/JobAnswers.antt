@@ -42,12 +42,15 @@ module _ (known : Known) (text : List ℕ) (rules : RulesV) (name : List ℕ) (r
   each_by_rule (Show form) line = each_shown known text rules name reading d is form line
   each_by_rule (Write form) line = each_written known text rules name reading d is form line
 
-  one_by_rule : (command : RuleCommand) (line answer other : List ℕ) → AnswersByRule command rules name reading line answer → AnswersByRule command rules name reading line other → answer ≡ other
+  one_by_rule : (command : RuleCommand) (line answer other : List ℕ)
+      → AnswersByRule command rules name reading line answer → AnswersByRule command rules name reading line other
+      → answer ≡ other
   one_by_rule (Show form) = one_shown known text rules name reading d is form
   one_by_rule (Write form) = one_written known text rules name reading d is form
 
 -- an answer that settles a line alone has its line feed
-alone : (Answer : List ℕ → List ℕ → Type 0) (before : LineState) (line : List ℕ) → (answer : List ℕ) × Answer line answer → (text : List ℕ) × (after : LineState) × AnswersAlone Answer before line text after
+alone : (Answer : List ℕ → List ℕ → Type 0) (before : LineState) (line : List ℕ) → (answer : List ℕ)
+    × Answer line answer → (text : List ℕ) × (after : LineState) × AnswersAlone Answer before line text after
 alone Answer before line a = (a.0 ++ 10 ∷ [], before, (a.0, a.1, refl, refl))
 
 one_alone :

@@ -1,5 +1,6 @@
 -- Each line has one answer of `segments`: it has a fault, or spells a block, for which the joiner gives one answer.
-use Rattle.std.proofs.Common.{◌≡◌, ℕ, ◌%◌, eqb, true, false, inl, inr, List, [], ◌∷◌, ◌++◌, length, codes, Option, Some, None, refl, sym, ◌∙◌, ap, subst, arith}
+use Rattle.std.proofs.Common.{◌≡◌, ℕ, ◌%◌, eqb, true, false, inl, inr, List, [], ◌∷◌, ◌++◌, length, codes, Option}
+use Rattle.std.proofs.Common.{Some, None, refl, sym, ◌∙◌, ap, subst, arith}
 use Rattle.std.proofs.lemmas.Bool.{cases_Bool}
 use Rattle.std.specs.Fmt.{decimal}
 use Rattle.csn_bits.specs.Octets.{bits_of_octets, octets_of}
@@ -32,7 +33,8 @@ same_state after end blocks watchers =
 module _ (known : Known) (text : List ℕ) (rules : RulesV) (reading : Reading) (d : DescV) (is : IsCompiled text (entry_root Downlink) reading rules d) where
   joined_answer : (joined : Joined) → IsShort joined → (answer : List ℕ) × AnswersJoined rules reading joined answer
   joined_answer (Whole message) short =
-      each_block known text rules (entry_root Downlink) reading d is Text (bits_of_octets message.items) (omega (arith, short, length-bits_of_octets message.items))
+      each_block known text rules (entry_root Downlink) reading d is Text (bits_of_octets message.items)
+      (omega (arith, short, length-bits_of_octets message.items))
   joined_answer (Waiting rti) short = (codes "wait " ++ decimal rti, refl)
   joined_answer (Refused why) short = (codes "bad " ++ decimal (segment_fault why), refl)
 
@@ -44,7 +46,12 @@ module _ (known : Known) (text : List ℕ) (rules : RulesV) (reading : Reading) 
     | inl whole ↦ (
         let answer = joined_answer (answer_to before (octets_of block)) (known.of_messages before (octets_of block)) in
         (answer.0, before ++ octets_of block ∷ [], joins_block block spells (grind arith) answer.1 refl))
-    | inr part ↦ (codes "bad 5", before, no_octets block spells (λ e. let clash : eqb (length block % 8) 0 ≡ true = grind arith in absurd (let two : false ≡ true = sym part ∙ clash in cc)) refl refl)
+    | inr part ↦ (
+      codes "bad 5",
+      before,
+      no_octets block spells (λ e. let clash : eqb (length block % 8) 0 ≡ true =
+          grind arith in absurd (let two : false ≡ true = sym part ∙ clash in cc)) refl refl,
+    )
   ]
 
   line_answer : (before : List (List ℕ)) (line : List ℕ) (fault : Option LineWhy) → fault_of line ≡ fault → HasAnswer before line
@@ -58,8 +65,10 @@ module _ (known : Known) (text : List ℕ) (rules : RulesV) (reading : Reading) 
 
   -- ---- and no other
 
-  one_joined : (joined : Joined) (answer other : List ℕ) → AnswersJoined rules reading joined answer → AnswersJoined rules reading joined other → answer ≡ other
-  one_joined (Whole message) answer other h k = one_block known text rules (entry_root Downlink) reading d is Text (bits_of_octets message.items) answer other h k
+  one_joined : (joined : Joined) (answer other : List ℕ) → AnswersJoined rules reading joined answer
+      → AnswersJoined rules reading joined other → answer ≡ other
+  one_joined (Whole message) answer other h k = one_block known text rules (entry_root Downlink) reading d is Text
+      (bits_of_octets message.items) answer other h k
   one_joined (Waiting rti) answer other h k = h ∙ sym k
   one_joined (Refused why) answer other h k = h ∙ sym k
 
@@ -69,25 +78,39 @@ module _ (known : Known) (text : List ℕ) (rules : RulesV) (reading : Reading) 
   one_spelled : (line block other : List ℕ) → BlockLine line block → BlockLine line other → block ≡ other
   one_spelled line block other spells spelled = known.of_lines.spells_one line block other spells spelled
 
-  one_line : (before after end : List (List ℕ)) (line answer other : List ℕ) → SegmentsLine rules reading before line answer after → SegmentsLine rules reading before line other end → SameLine answer other after end
+  one_line : (before after end : List (List ℕ)) (line answer other : List ℕ)
+      → SegmentsLine rules reading before line answer after → SegmentsLine rules reading before line other end
+      → SameLine answer other after end
   one_line before after end line answer other (joins_block block spells whole joined is_after) (joins_block block' spells' whole' joined' is_end) =
       let same = one_spelled line block block' spells spells' in (
-        one_joined (answer_to before (octets_of block')) answer other (subst (λ b. AnswersJoined rules reading (answer_to before (octets_of b)) answer) same joined) joined',
+        one_joined (answer_to before (octets_of block')) answer other
+            (subst (λ b. AnswersJoined rules reading (answer_to before (octets_of b)) answer) same joined) joined',
         is_after ∙ ap (λ b. before ++ octets_of b ∷ []) same ∙ sym is_end,
       )
   one_line before after end line answer other (joins_block block spells whole joined is_after) (no_octets block' spells' part e is_end) =
       let same = one_spelled line block block' spells spells' in absurd (part (ap (λ b. length b % 8) (sym same) ∙ whole))
   one_line before after end line answer other (no_octets block spells part e is_after) (joins_block block' spells' whole joined is_end) =
       let same = one_spelled line block block' spells spells' in absurd (part (ap (λ b. length b % 8) same ∙ whole))
-  one_line before after end line answer other (no_octets block spells part e is_after) (no_octets block' spells' part' e' is_end) = (e ∙ sym e', is_after ∙ sym is_end)
+  one_line before after end line answer other (no_octets block spells part e is_after)
+      (no_octets block' spells' part' e' is_end) = (e ∙ sym e', is_after ∙ sym is_end)
   one_line before after end line answer other (is_no_block fault holds e is_after) (is_no_block fault' holds' e' is_end) =
       (e ∙ ap fault_text (one_fault known text rules (entry_root Downlink) reading d is line fault fault' holds holds') ∙ sym e', is_after ∙ sym is_end)
-  one_line before after end line answer other (is_no_block fault holds e is_after) (joins_block block spells whole joined is_end) = absurd (no_block known text rules (entry_root Downlink) reading d is line block fault holds spells)
-  one_line before after end line answer other (is_no_block fault holds e is_after) (no_octets block spells part e' is_end) = absurd (no_block known text rules (entry_root Downlink) reading d is line block fault holds spells)
-  one_line before after end line answer other (joins_block block spells whole joined is_after) (is_no_block fault holds e is_end) = absurd (no_block known text rules (entry_root Downlink) reading d is line block fault holds spells)
-  one_line before after end line answer other (no_octets block spells part e' is_after) (is_no_block fault holds e is_end) = absurd (no_block known text rules (entry_root Downlink) reading d is line block fault holds spells)
+  one_line before after end line answer other (is_no_block fault holds e is_after)
+      (joins_block block spells whole joined is_end) =
+      absurd (no_block known text rules (entry_root Downlink) reading d is line block fault holds spells)
+  one_line before after end line answer other (is_no_block fault holds e is_after)
+      (no_octets block spells part e' is_end) =
+      absurd (no_block known text rules (entry_root Downlink) reading d is line block fault holds spells)
+  one_line before after end line answer other (joins_block block spells whole joined is_after)
+      (is_no_block fault holds e is_end) =
+      absurd (no_block known text rules (entry_root Downlink) reading d is line block fault holds spells)
+  one_line before after end line answer other (no_octets block spells part e' is_after)
+      (is_no_block fault holds e is_end) =
+      absurd (no_block known text rules (entry_root Downlink) reading d is line block fault holds spells)
 
-  pub one_segments : {before : LineState} {line text other : List ℕ} {after end : LineState} → Segments rules reading before line text after → Segments rules reading before line other end → (text ≡ other) × (after ≡ end)
+  pub one_segments : {before : LineState} {line text other : List ℕ} {after end : LineState}
+      → Segments rules reading before line text after → Segments rules reading before line other end → (text ≡ other)
+      × (after ≡ end)
   one_segments {before} {line} {after = after} {end} h k =
       let same = one_line before.blocks after.blocks end.blocks line h.0 k.0 h.1 k.1 in
       (h.2 ∙ ap (λ l. l ++ 10 ∷ []) same.0 ∙ sym k.2, same_state after end same.1 (h.3 ∙ sym k.3))

@@ -1,5 +1,6 @@
 -- Lines, and the text that answers them.
-use Rattle.std.proofs.Common.{◌≡◌, ℕ, suc, ◌+◌, ◌<◌, add-one, get_or, take, drop, drop-cons, Bool, true, false, cond, eqb, List, [], ◌∷◌, ◌++◌, length, refl, sym, ◌∙◌, ap, arith, map, ltb}
+use Rattle.std.proofs.Common.{◌≡◌, ℕ, suc, ◌+◌, ◌<◌, add-one, get_or, take, drop, drop-cons, Bool, true, false, cond}
+use Rattle.std.proofs.Common.{eqb, List, [], ◌∷◌, ◌++◌, length, refl, sym, ◌∙◌, ap, arith, map, ltb}
 use Rattle.std.proofs.lemmas.List.{map-append, take-append-drop}
 use Rattle.std.proofs.lemmas.List.Elements.{filter-append}
 use Rattle.std.specs.List.{filter}
@@ -26,8 +27,11 @@ pub between_feeds-append : (a b : List ℕ) → between_feeds (a ++ 10 ∷ b) �
 between_feeds-append [] b = refl
 between_feeds-append (c ∷ a) b =
     let rest = between_feeds-append a b in
-    let go : (v : Bool) → cond v ([] ∷ between_feeds (a ++ 10 ∷ b)) (begin_first c (between_feeds (a ++ 10 ∷ b))) ≡ cond v ([] ∷ between_feeds a) (begin_first c (between_feeds a)) ++ between_feeds b =
-    λ v. elim v as (λ v. cond v ([] ∷ between_feeds (a ++ 10 ∷ b)) (begin_first c (between_feeds (a ++ 10 ∷ b))) ≡ cond v ([] ∷ between_feeds a) (begin_first c (between_feeds a)) ++ between_feeds b)
+    let go : (v : Bool)
+    → cond v ([] ∷ between_feeds (a ++ 10 ∷ b)) (begin_first c (between_feeds (a ++ 10 ∷ b))) ≡ cond v
+    ([] ∷ between_feeds a) (begin_first c (between_feeds a)) ++ between_feeds b =
+    λ v. elim v as (λ v. cond v ([] ∷ between_feeds (a ++ 10 ∷ b)) (begin_first c (between_feeds (a ++ 10 ∷ b)))
+    ≡ cond v ([] ∷ between_feeds a) (begin_first c (between_feeds a)) ++ between_feeds b)
     [ true ↦ ap (λ xs. [] ∷ xs) rest | false ↦ ap (begin_first c) rest ∙ begin_first-append c _ _ (between_feeds-nil a) ]
     in go (eqb c 10)
 
@@ -45,7 +49,8 @@ HasNoFeed-append (c ∷ a) b h k = (h.0, HasNoFeed-append a b h.1 k)
 
 pub answered-append : (a b : List (List ℕ)) → answered (a ++ b) ≡ answered a ++ answered b
 answered-append a b =
-    ap (filter (λ line. ltb 0 (length line))) (map-append without_return a b) ∙ filter-append (λ line. ltb 0 (length line)) (map without_return a) (map without_return b)
+    ap (filter (λ line. ltb 0 (length line))) (map-append without_return a b)
+    ∙ filter-append (λ line. ltb 0 (length line)) (map without_return a) (map without_return b)
 
 -- bytes of which none is a line feed, place by place
 pub HasNoFeed-from_places : (bytes : List ℕ) → ((k : ℕ) → k < length bytes → get_or bytes k 0 ≡ 10 → ⊥) → HasNoFeed bytes
@@ -56,4 +61,6 @@ HasNoFeed-from_places (c ∷ bytes) h =
 -- what stands before the first line feed, the line feed, and what stands behind it
 pub split_at : (bytes : List ℕ) (k : ℕ) → k < length bytes → get_or bytes k 0 ≡ 10 → bytes ≡ take k bytes ++ 10 ∷ drop (k + 1) bytes
 split_at bytes k h is =
-    sym (take-append-drop k bytes) ∙ ap (λ rest. take k bytes ++ rest) (drop-cons bytes k 0 h ∙ ap (λ c. c ∷ drop (suc k) bytes) is ∙ ap (λ j. 10 ∷ drop j bytes) (sym (add-one k)))
+    sym (take-append-drop k bytes)
+    ∙ ap (λ rest. take k bytes ++ rest) (drop-cons bytes k 0 h ∙ ap (λ c. c ∷ drop (suc k) bytes) is ∙ ap
+    (λ j. 10 ∷ drop j bytes) (sym (add-one k)))

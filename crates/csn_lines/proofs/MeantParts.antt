@@ -16,7 +16,13 @@ use Rattle.csn_grammar.specs.Void.{Kept, kept_end, kept_next, kept_void, kept_er
 use Rattle.csn_grammar.specs.Labelled.{IsLabelled, ItemsLabelled, BranchesLabelled, AreLabelled}
 use Rattle.csn_grammar.specs.Laws.{MeaningsAreBits}
 use Rattle.csn_grammar.specs.Strings.{Strings}
-use Rattle.csn_grammar.specs.Meaning.{Means, ItemsMean, TimesMean, ManyMean, LeadMean, RuleMeans, TailMeans, with_turns, means_lits, means_null, means_bit, means_octet, means_field, means_rest, means_spare_bit, means_spare_low, means_padding, means_seq, means_choice, means_only, means_times, means_many, means_cut_all, means_cut, means_window, means_labelled, means_name, means_group, means_received, means_sent, items_end, items_next, times_end, times_next, many_end, many_next, lead_last, lead_next, rule_plain, rule_tail, tail_stop, tail_again}
+use Rattle.csn_grammar.specs.Meaning.{Means, ItemsMean, TimesMean, ManyMean, LeadMean, RuleMeans, TailMeans}
+use Rattle.csn_grammar.specs.Meaning.{with_turns, means_lits, means_null, means_bit, means_octet, means_field}
+use Rattle.csn_grammar.specs.Meaning.{means_rest, means_spare_bit, means_spare_low, means_padding, means_seq}
+use Rattle.csn_grammar.specs.Meaning.{means_choice, means_only, means_times, means_many, means_cut_all, means_cut}
+use Rattle.csn_grammar.specs.Meaning.{means_window, means_labelled, means_name, means_group, means_received}
+use Rattle.csn_grammar.specs.Meaning.{means_sent, items_end, items_next, times_end, times_next, many_end, many_next}
+use Rattle.csn_grammar.specs.Meaning.{lead_last, lead_next, rule_plain, rule_tail, tail_stop, tail_again}
 use Rattle.csn_grammar.proofs.VoidFacts.{rule_has}
 
 -- ---- the labels of parts

@@ -42,7 +42,8 @@ keeps_then first next = (
 )
 
 -- what is to blame for less is to blame for more
-pub keeps_along : {was is : Type 0} {before after : ℕ} {to_blame other : Type 0} → (to_blame → other) → Keeps was is before after to_blame → Keeps was is before after other
+pub keeps_along : {was is : Type 0} {before after : ℕ} {to_blame other : Type 0} → (to_blame → other)
+    → Keeps was is before after to_blame → Keeps was is before after other
 keeps_along f keeps = (keeps.0, keeps.1, λ no_other. keeps.2 (λ p. no_other (f p)))
 
 -- no call at all

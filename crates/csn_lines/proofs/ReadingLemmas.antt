@@ -1,5 +1,6 @@
 -- The open line, as a command takes it.
-use Rattle.std.proofs.Common.{◌≡◌, ℕ, ◌+◌, ◌-◌, ◌<◌, Bool, true, false, cond, eqb, get_or, take, List, ◌++◌, length, refl, sym, ◌∙◌, ap, arith, append_assoc, length-append}
+use Rattle.std.proofs.Common.{◌≡◌, ℕ, ◌+◌, ◌-◌, ◌<◌, Bool, true, false, cond, eqb, get_or, take, List, ◌++◌, length}
+use Rattle.std.proofs.Common.{refl, sym, ◌∙◌, ap, arith, append_assoc, length-append}
 use Rattle.std.proofs.lemmas.List.{get_or-append-add}
 use Rattle.std.proofs.Math.Seq.{take-append-add}
 use Rattle.csn_lines.specs.Lines.{HasNoFeed, without_return}
@@ -23,7 +24,10 @@ without_return-append a b some =
     go v = elim v as (λ v. cond v (a ++ take (length b - 1) b) (a ++ b) ≡ a ++ cond v (take (length b - 1) b) b) [ true ↦ refl | false ↦ refl ]
 
 -- some bytes more, behind a line that the command has taken whole
-pub at_more : {reads : List ℕ → Type 0} {given : ℕ} {held : Bool} (line bytes front : List ℕ) → HasNoFeed line → HasNoFeed bytes → 0 < length bytes → front ≡ without_return bytes → bytes ≡ front ++ return_of held → reads (line ++ front) → given ≡ length line + length front → AtLine reads given held (line ++ bytes)
+pub at_more : {reads : List ℕ → Type 0} {given : ℕ} {held : Bool} (line bytes front : List ℕ)
+    → HasNoFeed line → HasNoFeed bytes → 0 < length bytes → front ≡ without_return bytes
+    → bytes ≡ front ++ return_of held → reads (line ++ front) → given ≡ length line + length front
+    → AtLine reads given held (line ++ bytes)
 at_more line bytes front unended more some bare all stands count = record {
   front = line ++ front;
   stands = stands;
@@ -35,6 +39,14 @@ at_more line bytes front unended more some bare all stands count = record {
 
 -- bytes were given, and then more
 pub gives_then :
-    {work between_work work' : LineWork} {kept between_kept kept' : Kept} {lines between lines' : Lines} → OnlyGives work between_work kept between_kept lines between
-    → work' ≡ between_work → kept' ≡ between_kept → lines'.pending ≡ between.pending → lines'.refused ≡ between.refused → OnlyGives work work' kept kept' lines lines'
-gives_then first work kept pending refused = record { work = work ∙ first.work; kept = kept ∙ first.kept; pending = pending ∙ first.pending; refused = refused ∙ first.refused }
+    {work between_work work' : LineWork} {kept between_kept kept' : Kept} {lines between lines' : Lines}
+    → OnlyGives work between_work kept between_kept lines between
+    → work' ≡ between_work → kept' ≡ between_kept → lines'.pending ≡ between.pending
+    → lines'.refused ≡ between.refused → OnlyGives work work' kept kept' lines lines'
+gives_then first work kept pending refused = record {
+  work = work ∙ first.work;
+  kept = kept ∙ first.kept;
+  pending =
+      pending ∙ first.pending;
+  refused = refused ∙ first.refused;
+}

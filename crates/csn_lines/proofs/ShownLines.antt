@@ -85,7 +85,8 @@ module _ (known : Known) (text : List ℕ) (rules : RulesV) (name : List ℕ) (r
 
     -- ---- and no other
 
-    pub one_block : (block answer other : List ℕ) → ShowsBlock form rules name reading block answer → ShowsBlock form rules name reading block other → answer ≡ other
+    pub one_block : (block answer other : List ℕ) → ShowsBlock form rules name reading block answer
+        → ShowsBlock form rules name reading block other → answer ≡ other
     one_block block answer other (shows_tree t written means has e) (shows_tree t' written' means' has' e') =
         let tree : t ≡ t' = one_tree block t t' means means' in
         let texts : written ≡ written' = one_shown_text form t t' written written' tree has has' in
@@ -96,10 +97,12 @@ module _ (known : Known) (text : List ℕ) (rules : RulesV) (name : List ℕ) (r
         let places : place ≡ place' = known.of_blocks.one_place rules reading name block place place' at at' in
         e ∙ ap (λ p. refusal_text p block) places ∙ sym e'
 
-    pub one_shown : (line answer other : List ℕ) → ShowsLine form rules name reading line answer → ShowsLine form rules name reading line other → answer ≡ other
+    pub one_shown : (line answer other : List ℕ) → ShowsLine form rules name reading line answer
+        → ShowsLine form rules name reading line other → answer ≡ other
     one_shown line answer other (shows_block block spells shown) (shows_block block' spells' shown') =
         let same : block ≡ block' = known.of_lines.spells_one line block block' spells spells' in
         one_block block' answer other (subst (λ b. ShowsBlock form rules name reading b answer) same shown) shown'
     one_shown line answer other (shows_block block spells shown) (shows_fault fault holds e') = absurd (no_block line block fault holds spells)
     one_shown line answer other (shows_fault fault holds e) (shows_block block spells shown) = absurd (no_block line block fault holds spells)
-    one_shown line answer other (shows_fault fault holds e) (shows_fault fault' holds' e') = e ∙ ap fault_text (one_fault line fault fault' holds holds') ∙ sym e'
+    one_shown line answer other (shows_fault fault holds e) (shows_fault fault' holds' e') = e
+        ∙ ap fault_text (one_fault line fault fault' holds holds') ∙ sym e'

@@ -10,7 +10,8 @@ use Rattle.csn_lines.specs.Lines.{between_feeds}
 use Rattle.csn_lines.specs.Progress.{StopsAfter, StopsWithin, StopsBy}
 
 -- a job that stopped behind some lines stopped within them
-pub within_from_after : {St : Type 0} {begin : St} (Step : St → List ℕ → List ℕ → St → Type 0) (input text : List ℕ) → StopsAfter Step begin input text → StopsWithin Step begin input text
+pub within_from_after : {St : Type 0} {begin : St} (Step : St → List ℕ → List ℕ → St → Type 0) (input text : List ℕ)
+    → StopsAfter Step begin input text → StopsWithin Step begin input text
 within_from_after {begin = begin} Step input text a = record {
   ended = a.ended;
   after = a.after;
@@ -23,7 +24,9 @@ within_from_after {begin = begin} Step input text a = record {
 }
 
 -- of what begins the answers, so does the front
-pub within_shorter : {St : Type 0} {begin : St} (Step : St → List ℕ → List ℕ → St → Type 0) (input text front rest : List ℕ) → text ≡ front ++ rest → StopsWithin Step begin input text → StopsWithin Step begin input front
+pub within_shorter : {St : Type 0} {begin : St} (Step : St → List ℕ → List ℕ → St → Type 0)
+    (input text front rest : List ℕ) → text ≡ front ++ rest → StopsWithin Step begin input text
+    → StopsWithin Step begin input front
 within_shorter {begin = begin} Step input text front rest split a = record {
   ended = a.ended;
   after = a.after;
@@ -36,7 +39,9 @@ within_shorter {begin = begin} Step input text front rest split a = record {
 }
 
 -- what begins the answers to the front of an input begins those to all of it
-pub within_longer : {St : Type 0} {begin : St} (Step : St → List ℕ → List ℕ → St → Type 0) (input given past text : List ℕ) → input ≡ given ++ past → StopsWithin Step begin given text → StopsWithin Step begin input text
+pub within_longer : {St : Type 0} {begin : St} (Step : St → List ℕ → List ℕ → St → Type 0)
+    (input given past text : List ℕ) → input ≡ given ++ past → StopsWithin Step begin given text
+    → StopsWithin Step begin input text
 within_longer {begin = begin} Step input given past text split a = record {
   ended = a.ended;
   after = a.after;
@@ -64,7 +69,8 @@ take_both most front past = elim (cases_lt most (length front)) [
 ]
 
 -- a job that met a fault stopped within the lines that end within the limit of an input
-pub within_from_by : {St : Type 0} {begin : St} (Step : St → List ℕ → List ℕ → St → Type 0) (fault : Fault) (given text : List ℕ) → StopsBy Step begin fault given text → StopsWithin Step begin (take MOST_INPUT given) text
+pub within_from_by : {St : Type 0} {begin : St} (Step : St → List ℕ → List ℕ → St → Type 0) (fault : Fault)
+    (given text : List ℕ) → StopsBy Step begin fault given text → StopsWithin Step begin (take MOST_INPUT given) text
 within_from_by {begin = begin} Step Read given text h =
     subst (λ (l : List ℕ). StopsWithin Step begin l text) (sym (take_all MOST_INPUT given h.0)) (within_from_after Step given text h.1)
 within_from_by {begin = begin} Step Write given text h = h
@@ -72,7 +78,9 @@ within_from_by {begin = begin} Step Memory given text h = h
 within_from_by {begin = begin} Step TooLong given text h = within_from_after Step (take MOST_INPUT given) text h.1
 
 -- the same of an input that goes on behind what was given, and of the front of what was written
-pub within_input : {St : Type 0} {begin : St} (Step : St → List ℕ → List ℕ → St → Type 0) (fault : Fault) (input given past text front rest : List ℕ) → input ≡ given ++ past → text ≡ front ++ rest → StopsBy Step begin fault given text → StopsWithin Step begin (take MOST_INPUT input) front
+pub within_input : {St : Type 0} {begin : St} (Step : St → List ℕ → List ℕ → St → Type 0) (fault : Fault)
+    (input given past text front rest : List ℕ) → input ≡ given ++ past → text ≡ front ++ rest
+    → StopsBy Step begin fault given text → StopsWithin Step begin (take MOST_INPUT input) front
 within_input {begin = begin} Step fault input given past text front rest goes_on split h =
     let more = take_both MOST_INPUT given past in
     within_longer Step (take MOST_INPUT input) (take MOST_INPUT given) more.0 front (ap (take MOST_INPUT) goes_on ∙ more.1)

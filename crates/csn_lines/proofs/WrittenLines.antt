@@ -47,10 +47,20 @@ module _ (known : Known) (text : List ℕ) (rules : RulesV) (name : List ℕ) (r
     HasAnswer line = (answer : List ℕ) × WritesLine form rules name reading line answer
 
     tree_answer : (line : List ℕ) (t : TreeV) → IsRead form t line → HasAnswer line
-    tree_answer line t spells = elim (known.of_misfits.fit_or_miss d t (description known text rules name reading d is) is.certified (read_parts form t line spells)) [
-      | inl block ↦ (codes "ok " ++ written block.0, writes_block t block.0 spells block.1.within (string_of known text rules name reading d is block.0 t block.1.means) refl)
-      | inr misfit ↦ (misfit_text misfit.0 misfit.1, writes_misfit t d misfit.0 misfit.1 spells (no_block_of t (missed t misfit.0 misfit.1 misfit.2)) is.resolved misfit.2 refl)
-    ]
+    tree_answer line t spells =
+        elim (known.of_misfits.fit_or_miss d t (description known text rules name reading d is) is.certified
+        (read_parts form t line spells)) [
+          | inl block ↦ (
+            codes "ok " ++ written block.0,
+            writes_block t block.0 spells block.1.within
+                (string_of known text rules name reading d is block.0 t block.1.means) refl,
+          )
+          | inr misfit ↦ (
+            misfit_text misfit.0 misfit.1,
+            writes_misfit t d misfit.0 misfit.1 spells
+                (no_block_of t (missed t misfit.0 misfit.1 misfit.2)) is.resolved misfit.2 refl,
+          )
+        ]
 
     pub each_written : (line : List ℕ) → HasAnswer line
     each_written line = elim (read_or_not known form line) [
@@ -61,11 +71,13 @@ module _ (known : Known) (text : List ℕ) (rules : RulesV) (name : List ℕ) (r
     -- ---- and no other
 
     -- the bits that have the tree of a line are one block
-    one_block : (line b c : List ℕ) (t u : TreeV) → IsRead form t line → IsRead form u line → Strings rules name reading b t → Strings rules name reading c u → b ≡ c
+    one_block : (line b c : List ℕ) (t u : TreeV) → IsRead form t line → IsRead form u line
+        → Strings rules name reading b t → Strings rules name reading c u → b ≡ c
     one_block line b c t u spells spelled has holds =
         let same : t ≡ u = one_read known form t u line spells spelled in
         let here : Strings rules name reading b u = subst (λ x. Strings rules name reading b x) same has in
-        known.of_misfits.one_block d 0 0 [] b c u (meant_by known text rules name reading d is b u here) (meant_by known text rules name reading d is c u holds)
+        known.of_misfits.one_block d 0 0 [] b c u (meant_by known text rules name reading d is b u here)
+        (meant_by known text rules name reading d is c u holds)
 
     block_or_misfit :
         (line b : List ℕ) (t u : TreeV) → IsRead form t line → IsRead form u line → length b ≤ most_bits → Strings rules name reading b t
@@ -85,16 +97,22 @@ module _ (known : Known) (text : List ℕ) (rules : RulesV) (name : List ℕ) (r
         let Q : TreeV → Type 0 = λ x. IsMisfit f x path why in
         known.of_misfits.one_misfit f 0 0 [] u path other why because (subst Q trees (subst P descs first)) another
 
-    pub one_written : (line answer other : List ℕ) → WritesLine form rules name reading line answer → WritesLine form rules name reading line other → answer ≡ other
+    pub one_written : (line answer other : List ℕ) → WritesLine form rules name reading line answer
+        → WritesLine form rules name reading line other → answer ≡ other
     one_written line answer other (writes_block t b spells few has e) (writes_block u c spelled few' holds e') =
         e ∙ ap (λ l. codes "ok " ++ written l) (one_block line b c t u spells spelled has holds) ∙ sym e'
-    one_written line answer other (writes_block t b spells few has e) (writes_misfit u f path why spelled none resolved misfit e') = absurd (block_or_misfit line b t u spells spelled few has none)
+    one_written line answer other (writes_block t b spells few has e)
+        (writes_misfit u f path why spelled none resolved misfit e') =
+        absurd (block_or_misfit line b t u spells spelled few has none)
     one_written line answer other (writes_block t b spells few has e) (writes_bad bad) = absurd (not_unread known form t line other spells bad)
-    one_written line answer other (writes_misfit u f path why spelled none resolved misfit e') (writes_block t b spells few has e) = absurd (block_or_misfit line b t u spells spelled few has none)
+    one_written line answer other (writes_misfit u f path why spelled none resolved misfit e')
+        (writes_block t b spells few has e) = absurd (block_or_misfit line b t u spells spelled few has none)
     one_written line answer other (writes_misfit t d path why spells none resolved first e) (writes_misfit u f path' why' spelled none' gives another e') =
         let same = one_misfit line t u d f path path' why why' spells spelled resolved gives first another in
         e ∙ ap (λ p. misfit_text p why) same.0 ∙ ap (λ w. misfit_text path' w) same.1 ∙ sym e'
-    one_written line answer other (writes_misfit u f path why spelled none resolved misfit e') (writes_bad bad) = absurd (not_unread known form u line other spelled bad)
+    one_written line answer other (writes_misfit u f path why spelled none resolved misfit e') (writes_bad bad) =
+        absurd (not_unread known form u line other spelled bad)
     one_written line answer other (writes_bad bad) (writes_block t b spells few has e) = absurd (not_unread known form t line answer spells bad)
-    one_written line answer other (writes_bad bad) (writes_misfit u f path why spelled none resolved misfit e') = absurd (not_unread known form u line answer spelled bad)
+    one_written line answer other (writes_bad bad) (writes_misfit u f path why spelled none resolved misfit e') =
+        absurd (not_unread known form u line answer spelled bad)
     one_written line answer other (writes_bad bad) (writes_bad worse) = one_unread known form line answer other bad worse

@@ -19,7 +19,8 @@ end_by TooLong = Long
 
 -- what a job over lines tells of its source and its sink: it is over by a fault of one only where that shows it, and the
 -- faults of one are as many as before where it does not blame it
-pub record BlamesStreams (end : Result Ended Fault) (steady steady' : Type 0) (faults faults' : ℕ) (sink_steady sink_steady' : Type 0) (sink_faults sink_faults' : ℕ) : Type 0 where
+pub record BlamesStreams (end : Result Ended Fault) (steady steady' : Type 0) (faults faults' : ℕ)
+    (sink_steady sink_steady' : Type 0) (sink_faults sink_faults' : ℕ) : Type 0 where
   pub read : end ≡ Err Read → Rose faults faults'
   pub write : end ≡ Err Write → Rose sink_faults sink_faults'
   pub input : Keeps steady steady' faults faults' (end ≡ Err Read)

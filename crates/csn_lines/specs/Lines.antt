@@ -1,5 +1,6 @@
 -- The lines of an input, and the text that answers them. They are this project's own choice.
-use Rattle.std.specs.Prelude.{◌≢◌, ℕ, ◌==◌, Bool, if◌then◌else◌, ◌||◌, true, false, nat_lt, ◌-◌, slice_index, take, List, [], ◌∷◌, length, map, filter, codes, nat_eq}
+use Rattle.std.specs.Prelude.{◌≢◌, ℕ, ◌==◌, Bool, if◌then◌else◌, ◌||◌, true, false, nat_lt, ◌-◌, slice_index, take}
+use Rattle.std.specs.Prelude.{List, [], ◌∷◌, length, map, filter, codes, nat_eq}
 use Rattle.std.specs.List.{AllByRecursion, flat_map, starts_with}
 use Rattle.csn_lines.specs.declared.lines.TheConstants.{LINE_FEED, CARRIAGE_RETURN}
 use Rattle.csn_lines.specs.declared.lines.Answered.{Answered}

@@ -14,7 +14,9 @@ use Rattle.csn_desc.specs.declared.reading.Reading.{Reading}
 use Rattle.csn_desc.specs.Nodes.{DescV}
 use Rattle.csn_desc.specs.TreeV.{TreeV}
 use Rattle.csn_encode.specs.declared.misfit.MisfitWhy.{MisfitWhy}
-use Rattle.csn_encode.specs.declared.misfit.MisfitWhy.TheVariants.{WrongKind, WrongLabel, WrongCount, WrongWidth, WrongSpare, NoSuchAlternative, WindowLength, TooManyBits as past_the_limit}
+use Rattle.csn_encode.specs.declared.misfit.MisfitWhy.TheVariants.{WrongKind, WrongLabel, WrongCount, WrongWidth}
+use Rattle.csn_encode.specs.declared.misfit.MisfitWhy.TheVariants.{WrongSpare, NoSuchAlternative, WindowLength}
+use Rattle.csn_encode.specs.declared.misfit.MisfitWhy.TheVariants.{TooManyBits as past_the_limit}
 use Rattle.csn_encode.specs.Misfits.{IsMisfit}
 use Rattle.csn_grammar.specs.RulesV.{RulesV}
 use Rattle.csn_grammar.specs.Strings.{Strings, IsPlace}

@@ -18,14 +18,16 @@ AllSteps Step before (line ∷ lines) (text ∷ texts) after =
     (between : _) × Step before line text between × AllSteps Step between lines texts after
 
 -- the text is what these pieces of an input give from one state to another, and `refused` says whether some line is refused
-pub record Answers {St : Type 0} (Step : St → List ℕ → List ℕ → St → Type 0) (before : St) (pieces : List (List ℕ)) (text : List ℕ) (after : St) (refused : Bool) : Type 0 where
+pub record Answers {St : Type 0} (Step : St → List ℕ → List ℕ → St → Type 0) (before : St) (pieces : List (List ℕ))
+    (text : List ℕ) (after : St) (refused : Bool) : Type 0 where
   pub texts : List (List ℕ)
   pub each : AllSteps Step before (answered pieces) texts after
   pub text_is : text ≡ text_of texts
   pub refused_is : refused ≡ list_any is_refusal texts
 
 -- new is old with a text behind it that these pieces give
-pub record AddsAnswers {St : Type 0} (Step : St → List ℕ → List ℕ → St → Type 0) (before : St) (pieces : List (List ℕ)) (old new : List ℕ) (after : St) (refused : Bool) : Type 0 where
+pub record AddsAnswers {St : Type 0} (Step : St → List ℕ → List ℕ → St → Type 0) (before : St)
+    (pieces : List (List ℕ)) (old new : List ℕ) (after : St) (refused : Bool) : Type 0 where
   pub text : List ℕ
   pub answers : Answers Step before pieces text after refused
   pub new_is : new ≡ old ++ text
@@ -37,7 +39,8 @@ pub record EndsIn (bytes : List ℕ) (ended : List (List ℕ)) (line : List ℕ)
 
 -- a job that had answered what stood before the bytes has answered each piece that a line feed ends
 -- in them, and stands at a line. `old` and `new` are the texts that wait for the sink
-pub record Advances {St : Type 0} (Step : St → List ℕ → List ℕ → St → Type 0) (before : St) (bytes line old new : List ℕ) (after : St) (refused : Bool) : Type 0 where
+pub record Advances {St : Type 0} (Step : St → List ℕ → List ℕ → St → Type 0) (before : St)
+    (bytes line old new : List ℕ) (after : St) (refused : Bool) : Type 0 where
   pub ended : List (List ℕ)
   pub ends : EndsIn bytes ended line
   pub adds : AddsAnswers Step before ended old new after refused
@@ -52,7 +55,8 @@ pub record Halts {St : Type 0} (Step : St → List ℕ → List ℕ → St → T
 
 -- a job went through the bytes, and the sink took all that answers the pieces which a line feed ends
 -- in them
-pub record PassesOn {St : Type 0} (Step : St → List ℕ → List ℕ → St → Type 0) (before : St) (bytes line : List ℕ) (taken taken' : Option (List ℕ)) (after : St) (was_refused is_refused : Bool) : Type 0 where
+pub record PassesOn {St : Type 0} (Step : St → List ℕ → List ℕ → St → Type 0) (before : St) (bytes line : List ℕ)
+    (taken taken' : Option (List ℕ)) (after : St) (was_refused is_refused : Bool) : Type 0 where
   pub text : List ℕ
   pub refused : Bool
   pub advances : Advances Step before bytes line [] text after refused
@@ -61,7 +65,8 @@ pub record PassesOn {St : Type 0} (Step : St → List ℕ → List ℕ → St �
 
 -- a job stopped on the way through the bytes: what the sink took, with what waits for it, begins the
 -- answers to some of the first pieces
-pub record HaltsAt {St : Type 0} (Step : St → List ℕ → List ℕ → St → Type 0) (before : St) (bytes : List ℕ) (taken taken' : Option (List ℕ)) (waits : List ℕ) : Type 0 where
+pub record HaltsAt {St : Type 0} (Step : St → List ℕ → List ℕ → St → Type 0) (before : St) (bytes : List ℕ)
+    (taken taken' : Option (List ℕ)) (waits : List ℕ) : Type 0 where
   pub text : List ℕ
   pub took : List ℕ
   pub rest : List ℕ
@@ -91,7 +96,8 @@ pub record KeepsUp {St : Type 0} (Step : St → List ℕ → List ℕ → St →
   pub text_is : text ≡ front ++ rest
 
 -- the last line of an input is answered, and what closes the input stands behind that
-pub record Closes {St : Type 0} (Step : St → List ℕ → List ℕ → St → Type 0) (closing : St → List ℕ) (before : St) (line old new : List ℕ) (was_refused is_refused : Bool) : Type 0 where
+pub record Closes {St : Type 0} (Step : St → List ℕ → List ℕ → St → Type 0) (closing : St → List ℕ) (before : St)
+    (line old new : List ℕ) (was_refused is_refused : Bool) : Type 0 where
   pub between : List ℕ
   pub after : St
   pub refused : Bool
@@ -101,7 +107,8 @@ pub record Closes {St : Type 0} (Step : St → List ℕ → List ℕ → St → 
 
 -- all lines of an input are answered: what the source gave until nothing was left, `gave`, is the
 -- whole input, and what the sink took, with what waits for it, is the text that answers it, with what closes it
-pub record AnswersAll {St : Type 0} (Step : St → List ℕ → List ℕ → St → Type 0) (closing : St → List ℕ) (begin : St) (left left' : Option (List ℕ)) (taken taken' : Option (List ℕ)) (waits : List ℕ) (refused : Bool) : Type 0 where
+pub record AnswersAll {St : Type 0} (Step : St → List ℕ → List ℕ → St → Type 0) (closing : St → List ℕ) (begin : St)
+    (left left' : Option (List ℕ)) (taken taken' : Option (List ℕ)) (waits : List ℕ) (refused : Bool) : Type 0 where
   pub given : List ℕ
   pub took : List ℕ
   pub text : List ℕ
@@ -135,7 +142,8 @@ StopsBy Step begin Memory given text = StopsWithin Step begin (take MOST_INPUT g
 StopsBy Step begin TooLong given text = (length given ≡ MOST_INPUT + 1) × StopsAfter Step begin (take MOST_INPUT given) text
 
 -- a fault stopped a job over the lines of an input
-pub record Stops {St : Type 0} (Step : St → List ℕ → List ℕ → St → Type 0) (begin : St) (fault : Fault) (left left' : Option (List ℕ)) (taken taken' : Option (List ℕ)) (waits : List ℕ) : Type 0 where
+pub record Stops {St : Type 0} (Step : St → List ℕ → List ℕ → St → Type 0) (begin : St) (fault : Fault)
+    (left left' : Option (List ℕ)) (taken taken' : Option (List ℕ)) (waits : List ℕ) : Type 0 where
   pub given : List ℕ
   pub took : List ℕ
   pub source : Gave left left' given

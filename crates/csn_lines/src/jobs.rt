@@ -39,7 +39,8 @@ pub fn answer_lines<C: LineCommand, S: Source, K: Sink>(
     requires begin { C.reads command.old [] }
     requires ready { IsReady lines.old }
     ensures ok { IfOk result (λ ended. AnswersAll (Works (C.work command.old)) closing_of (C.kept command.old)
-        (S.left input.old) (S.left input.new) (K.taken out.old) (K.taken out.new) lines.new.pending.items lines.new.refused × (ended ≡ end_of lines.new.refused)) }
+        (S.left input.old) (S.left input.new) (K.taken out.old) (K.taken out.new)
+        lines.new.pending.items lines.new.refused × (ended ≡ end_of lines.new.refused)) }
     ensures err { IfErr result (λ fault. Stops (Works (C.work command.old)) (C.kept command.old) fault
         (S.left input.old) (S.left input.new) (K.taken out.old) (K.taken out.new) lines.new.pending.items) }
     ensures blames { BlamesStreams result (S.steady input.old) (S.steady input.new) (S.faults input.old) (S.faults input.new)
@@ -62,7 +63,8 @@ pub fn answer_captures<S: Source, K: Sink>(
     requires ready { IsReady lines.old }
     ensures ok { IfOk result (λ ended. AnswersAll (Works (replaying_by (map desc_of text.entry.writers.items))) closing_of
         (record { bodies = []; watchers = map (λ b. watched b) watchers.items })
-        (S.left input.old) (S.left input.new) (K.taken out.old) (K.taken out.new) lines.new.pending.items lines.new.refused × (ended ≡ end_of lines.new.refused)) }
+        (S.left input.old) (S.left input.new) (K.taken out.old) (K.taken out.new)
+        lines.new.pending.items lines.new.refused × (ended ≡ end_of lines.new.refused)) }
     ensures err { IfErr result (λ fault. Stops (Works (replaying_by (map desc_of text.entry.writers.items)))
         (record { bodies = []; watchers = map (λ b. watched b) watchers.items }) fault
         (S.left input.old) (S.left input.new) (K.taken out.old) (K.taken out.new) lines.new.pending.items) }

@@ -1,6 +1,7 @@
 //! The lines of an input, each answered as soon as its line feed was taken.
 
-ghost use Rattle.std.specs.Prelude.{◌≡◌, ◌≤◌, ◌<◌, ◌+◌, ◌⊎◌, ◌||◌, [], ◌∷◌, ◌++◌, List, ℕ, Bool, length, take, false, OnOk, OnErr, IfOk, IfErr, IfNone, IfSome};
+ghost use Rattle.std.specs.Prelude.{◌≡◌, ◌≤◌, ◌<◌, ◌+◌, ◌⊎◌, ◌||◌, [], ◌∷◌, ◌++◌, List, ℕ, Bool, length, take, false};
+ghost use Rattle.std.specs.Prelude.{OnOk, OnErr, IfOk, IfErr, IfNone, IfSome};
 ghost use Rattle.csn_io.specs.Faults.{Keeps, Rose};
 ghost use Rattle.csn_io.specs.Got.{IfBytes, OnEnd, OnFailed, UnlessBytes, Gave, NothingLeft};
 ghost use Rattle.csn_io.specs.Put.{Appended};

@@ -31,7 +31,9 @@ begins_with_zero : InStart triples 1 0 0
 begins_with_zero = starts_at _ refl (starts_lits refl)
 
 third_is_reached : Reached triples 1 6
-third_is_reached = reached_part 0 0 _ [] [] refl refl (reached_root refl refl) (reached_many (many_next 3 (ends_at _ refl (ends_lits refl)) (many_next 6 (ends_at _ refl (ends_lits refl)) (many_end refl))))
+third_is_reached = reached_part 0 0 _ [] [] refl refl (reached_root refl refl)
+    (reached_many (many_next 3 (ends_at _ refl (ends_lits refl)) (many_next 6 (ends_at _ refl (ends_lits refl))
+    (many_end refl))))
 
 third_begins_with_one : InStart triples 1 6 1
 third_begins_with_one = starts_at _ refl (starts_lits refl)

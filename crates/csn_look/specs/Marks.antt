@@ -39,7 +39,8 @@ eight (suc (suc (suc (suc (suc (suc (suc (suc p)))))))) = grind (arith, nat_test
 pub contains-marked : (marks p : ℕ) → set.contains (marked marks) p ≡ (bit_at marks p == 1 && nat_le p 7)
 contains-marked marks p =
     set.contains-from_list_nat _ p
-    ∙ any-filter_same (λ y. nat_eq y p) (λ y. bit_at marks y == 1) (bit_at marks p == 1) (λ k same. ap (λ y. bit_at marks y == 1) (eqb-true k p same)) (0 ∷ 1 ∷ 2 ∷ 3 ∷ 4 ∷ 5 ∷ 6 ∷ 7 ∷ [])
+    ∙ any-filter_same (λ y. nat_eq y p) (λ y. bit_at marks y == 1) (bit_at marks p == 1)
+    (λ k same. ap (λ y. bit_at marks y == 1) (eqb-true k p same)) (0 ∷ 1 ∷ 2 ∷ 3 ∷ 4 ∷ 5 ∷ 6 ∷ 7 ∷ [])
     ∙ ap (λ b. bit_at marks p == 1 && b) (eight p)
 
 -- the mark of a bit

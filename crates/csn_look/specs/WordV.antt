@@ -22,7 +22,9 @@ write_on-push : (front : ℕ) (bits : List ℕ) (last : ℕ) → write_on front 
 write_on-push front [] last = refl
 write_on-push front (bit ∷ bits) last = write_on-push (2 * front + bit) bits last
 
-written_more : (most place : ℕ) (test : Bool) → nat_le place 1 ≡ test → 0 < place → (1 < place → write_on 1 (bits_behind most (place / 2)) ≡ place / 2) → write_on 1 (bits_behind (suc most) place) ≡ place
+written_more : (most place : ℕ) (test : Bool) → nat_le place 1 ≡ test → 0 < place
+    → (1 < place → write_on 1 (bits_behind most (place / 2)) ≡ place / 2)
+    → write_on 1 (bits_behind (suc most) place) ≡ place
 written_more most place true one some half = rw one (let low : place ≡ 1 = grind (arith, nat_tests) in sym low)
 written_more most place false one some half =
     let big : 1 < place = grind (arith, nat_tests) in

@@ -19,7 +19,8 @@ pub(crate) fn full_size(table: &KeyTable, place: usize, len: u8) -> Option<u8>
     requires within { place < 2 ^ (len + 1) }
     ensures room { IfSome result (λ more. len + more ≤ MOST_WORD) }
     ensures full { IfSome result (IsFullAt table.now place) }
-    ensures none { IfNone result ((word : List ℕ) → IsWord word → place_of word ≡ place → length word ≡ len → (more : ℕ) → len + more ≤ MOST_WORD → ¬ IsFullAt table.now place more) }
+    ensures none { IfNone result ((word : List ℕ) → IsWord word → place_of word ≡ place → length word ≡ len
+        → (more : ℕ) → len + more ≤ MOST_WORD → ¬ IsFullAt table.now place more) }
 {
     let Some(more) = first_key(table, place, len) else {
         return None;

@@ -17,7 +17,9 @@ pub(crate) trait HandDown: Copy {
     /// Writes to a table what the parts of a node have, from what the node has.
     fn hand_down(look: &Look, node: &Node, above: Self, table: &mut [Self])
         requires { HandsTo node.now (length table.old) (length look.now.sets) }
-        ensures parts { (d : DescV) (k : ℕ) → IsDescription d → IsLookOf d look.now.sets → slice_get d.nodes k ≡ Some node.now → is_right d k above → (j p : ℕ) → slice_get (parts_of node.now) j ≡ Some p → HasRight (is_right d) table.new p }
+        ensures parts { (d : DescV) (k : ℕ) → IsDescription d → IsLookOf d look.now.sets → slice_get d.nodes k ≡ Some
+            node.now → is_right d k above → (j p : ℕ) → slice_get (parts_of node.now) j ≡ Some p
+            → HasRight (is_right d) table.new p }
         ensures others { KeepsOthers node.now table.old table.new };
 }
 

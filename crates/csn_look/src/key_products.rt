@@ -59,7 +59,9 @@ fn add_marked(
     requires some { 0 < front }
     requires few { words ≤ MOST_WORDS }
     requires room { (front + 1) * words ≤ PLACES }
-    ensures { (first : List ℕ) (size : ℕ) → IsWord first → place_of first ≡ front → words ≡ 2 ^ size → length first + size ≤ MOST_WORD → Gains marks.old marks.new (λ word mark. IsBehind rest.now plane first size words word × (mark ≡ whole)) }
+    ensures { (first : List ℕ) (size : ℕ) → IsWord first → place_of first ≡ front → words ≡ 2 ^ size
+        → length first + size ≤ MOST_WORD
+        → Gains marks.old marks.new (λ word mark. IsBehind rest.now plane first size words word × (mark ≡ whole)) }
 {
     if sizes & words == 0 {
         return;
@@ -77,7 +79,9 @@ fn add_keys_of(marks: &mut [u64], front: usize, rest: &KeyTable, sizes: Sizes, w
     requires some { 0 < front }
     requires few { words ≤ MOST_WORDS }
     requires room { (front + 1) * words ≤ PLACES }
-    ensures { (first : List ℕ) (size : ℕ) → IsWord first → place_of first ≡ front → words ≡ 2 ^ size → length first + size ≤ MOST_WORD → Gains marks.old marks.new (λ word mark. IsBehind rest.now (if mark then 0 else CUT) first size words word) }
+    ensures { (first : List ℕ) (size : ℕ) → IsWord first → place_of first ≡ front → words ≡ 2 ^ size
+        → length first + size ≤ MOST_WORD
+        → Gains marks.old marks.new (λ word mark. IsBehind rest.now (if mark then 0 else CUT) first size words word) }
 {
     add_marked(marks, front, rest, 0, sizes.whole, words, true);
     add_marked(marks, front, rest, CUT, sizes.cut, words, false);
@@ -93,7 +97,8 @@ fn add_behind(marks: &mut [u64], front: usize, rest: &KeyTable, sizes: Sizes, ro
     requires some { 0 < front }
     requires few { room ≤ MOST_WORD }
     requires within { (front + 1) * 2 ^ room ≤ PLACES }
-    ensures { (first : List ℕ) → IsWord first → place_of first ≡ front → length first + room ≡ MOST_WORD → IsKeyTable rest.now → Gains marks.old marks.new (IsKeyBehind rest.now first) }
+    ensures { (first : List ℕ) → IsWord first → place_of first ≡ front → length first + room ≡ MOST_WORD
+        → IsKeyTable rest.now → Gains marks.old marks.new (IsKeyBehind rest.now first) }
 {
     for size in 0..room + 1 {
         add_keys_of(marks, front, rest, sizes, words_of(size));
@@ -135,7 +140,9 @@ pub(crate) fn add_after_size(marks: &mut [u64], first: &KeyTable, rest: &KeyTabl
     requires first_size { length first.now ≡ MARK_WORDS }
     requires rest_size { length rest.now ≡ MARK_WORDS }
     requires few { size ≤ MOST_WORD }
-    ensures { IsKeyTable rest.now → Gains marks.old marks.new (λ word mark. (IsBehind first.now CUT [] size (2 ^ size) word × (mark ≡ false)) ⊎ IsAfter first.now rest.now size (2 ^ size) word mark) }
+    ensures { IsKeyTable rest.now → Gains marks.old marks.new
+        (λ word mark. (IsBehind first.now CUT [] size (2 ^ size) word × (mark ≡ false))
+        ⊎ IsAfter first.now rest.now size (2 ^ size) word mark) }
 {
     add_marked(marks, 1, first, CUT, ALL_SIZES, words_of(size), false);
     add_after_wholes(marks, first, rest, size);

@@ -6,7 +6,8 @@ ghost use Rattle.csn_desc.specs.Nodes.{DescV, parts_of};
 ghost use Rattle.csn_desc.specs.Spelled.{spelled};
 ghost use Rattle.csn_look.specs.Keys.{Cut, InKeys, NodeKeys, PartsKeys, TimesKeys};
 ghost use Rattle.csn_look.specs.KeyMarks.{KeysAre};
-ghost use Rattle.csn_look.specs.KeyRows.{table_of, HasTable, HasRow, IsMore, Makes, AreTables, IsSameRow, RowAfter, IsSpareKey, IsRowed, AreRowed, AreAlike, HasRows};
+ghost use Rattle.csn_look.specs.KeyRows.{table_of, HasTable, HasRow, IsMore, Makes, AreTables, IsSameRow, RowAfter};
+ghost use Rattle.csn_look.specs.KeyRows.{IsSpareKey, IsRowed, AreRowed, AreAlike, HasRows};
 
 use crate::key_table::KeyTable;
 use crate::known::bit_of_symbol;
@@ -186,7 +187,8 @@ fn repeated_row(
     n: u32,
 ) -> Result<[usize; 8], NoMemory>
     requires { AreTables tables.old once.now }
-    ensures { (d : DescV) (i : ℕ) → HasRow tables.old once.now (InKeys d MOST_WORD i) → IfOk result (λ row. Makes tables.old tables.new row (TimesKeys d MOST_WORD n i)) }
+    ensures { (d : DescV) (i : ℕ) → HasRow tables.old once.now (InKeys d MOST_WORD i)
+        → IfOk result (λ row. Makes tables.old tables.new row (TimesKeys d MOST_WORD n i)) }
 {
     let mut row = empty_row(alloc, tables, true)?;
     for done in 0..n {

@@ -77,7 +77,8 @@ pub(crate) fn list_keys(
     requires few { size ≤ MOST_WORD }
     requires some { 0 < place }
     requires small { place < 2 ^ (size + 1) }
-    ensures { (word : List ℕ) → IsWord word → place_of word ≡ place → length word ≡ size → IfOk result (λ done. keys.new.items ≡ keys.old.items ++ keys_from marks.now (MOST_WORD - size) word) }
+    ensures { (word : List ℕ) → IsWord word → place_of word ≡ place → length word ≡ size → IfOk result
+        (λ done. keys.new.items ≡ keys.old.items ++ keys_from marks.now (MOST_WORD - size) word) }
 {
     list_word(marks, place, keys)?;
     if size == MOST_WORD {

@@ -250,7 +250,9 @@ impl KeyTable {
         rests: &[usize; 8],
     ) -> Result<(), NoMemory>
         requires { (size : ℕ) → size < 8 → slice_index rests.now size < length tables.now }
-        ensures added { IfOk result (λ done. Adds self.old self.new (AfterKeys first.now (λ size. slice_index_or tables.now (slice_index rests.now (size % 8)) []))) }
+        ensures added { IfOk result
+            (λ done. Adds self.old self.new
+            (AfterKeys first.now (λ size. slice_index_or tables.now (slice_index rests.now (size % 8)) []))) }
         ensures err { OnErr result (self.new ≡ self.old) }
     {
         let _ = &first.index;

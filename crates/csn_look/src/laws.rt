@@ -2,10 +2,18 @@
 
 ghost use Rattle.csn_look.specs.Known.{Known};
 ghost use Rattle.csn_look.specs.Laws.{NoBitsAreOfNullable, MeantBitsEnd, EndsAreOctets, MeantBitsStart, FollowedBitsStart};
-ghost use Rattle.csn_look.specs.Laws.{EmptyKeysAreAnywhere, FirmNodesHaveBits, KeysOfFirmNodesHaveBits, MeantBitsBeginWithKeys, FollowedBitsBeginKeys, NodesHaveKeys, KeysStart, WholeKeysAreMeant, BeginningsOfKeysAreFollowed, KeysAreBits, KeysAreShort};
-ghost use Rattle.csn_look.specs.Laws.{RootIsReached, ReachedAreOctets, SequencesReach, TruncationsReach, RepetitionsReach, FreeRepetitionsReach, ChoicesReach, WindowsReach, LabelsReach};
+ghost use Rattle.csn_look.specs.Laws.{EmptyKeysAreAnywhere, FirmNodesHaveBits, KeysOfFirmNodesHaveBits};
+ghost use Rattle.csn_look.specs.Laws.{MeantBitsBeginWithKeys, FollowedBitsBeginKeys, NodesHaveKeys, KeysStart};
+ghost use Rattle.csn_look.specs.Laws.{WholeKeysAreMeant, BeginningsOfKeysAreFollowed, KeysAreBits, KeysAreShort};
+ghost use Rattle.csn_look.specs.Laws.{RootIsReached, ReachedAreOctets, SequencesReach, TruncationsReach};
+ghost use Rattle.csn_look.specs.Laws.{RepetitionsReach, FreeRepetitionsReach, ChoicesReach, WindowsReach};
+ghost use Rattle.csn_look.specs.Laws.{LabelsReach};
 ghost use Rattle.csn_look.specs.Laws.{OnePartMore, FirstTurn, OneTurnMore, TurnsReach, OneFreeTurnMore};
-ghost use Rattle.csn_look.specs.Laws.{BehindPartsOfSequences, FollowedBehindPartsOfSequences, BehindPartsOfTruncations, BehindLastOfTruncations, FollowedBehindPartsOfTruncations, BehindTurns, FollowedBehindTurns, BehindFreeTurns, FollowedBehindFreeTurns, BehindAlternatives, BehindLabelledParts, NothingStandsAnywhere};
+ghost use Rattle.csn_look.specs.Laws.{BehindPartsOfSequences, FollowedBehindPartsOfSequences};
+ghost use Rattle.csn_look.specs.Laws.{BehindPartsOfTruncations, BehindLastOfTruncations};
+ghost use Rattle.csn_look.specs.Laws.{FollowedBehindPartsOfTruncations, BehindTurns, FollowedBehindTurns};
+ghost use Rattle.csn_look.specs.Laws.{BehindFreeTurns, FollowedBehindFreeTurns, BehindAlternatives};
+ghost use Rattle.csn_look.specs.Laws.{BehindLabelledParts, NothingStandsAnywhere};
 
 /// What the laws of csn_desc say, as the lemmas here take it.
 fn known()

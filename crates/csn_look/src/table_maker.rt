@@ -92,7 +92,9 @@ impl TableMaker {
     ) -> Result<usize, NoMemory>
         requires first { first < length self.old }
         requires rests { (size : ℕ) → size < 8 → slice_index rests.now size < length self.old }
-        ensures kept { IfOk result (λ at. HasTable self.new at (AfterKeys (table_of self.old first) (λ size. table_of self.old (slice_index rests.now (size % 8))))) }
+        ensures kept { IfOk result
+            (λ at. HasTable self.new at
+            (AfterKeys (table_of self.old first) (λ size. table_of self.old (slice_index rests.now (size % 8))))) }
         ensures more { IsMore self.old self.new }
     {
         let digest = digest_of(first, rests);

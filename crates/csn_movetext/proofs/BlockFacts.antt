@@ -40,7 +40,8 @@ use Rattle.csn_movetext.proofs.Octets.{extends_none}
 use Rattle.csn_movetext.proofs.Followed.{same_openings, extends, followed, tells-then, nothing_shown, all_written}
 
 -- no bits so far
-pub writes_none : (j : JudgeV) (openings : OpeningsV) (before : List ℕ) → JudgesFor j [] [] → opened j ≡ [] → WritesFor (stands j (nothing openings before) Going before) []
+pub writes_none : (j : JudgeV) (openings : OpeningsV) (before : List ℕ) → JudgesFor j [] [] → opened j ≡ []
+    → WritesFor (stands j (nothing openings before) Going before) []
 writes_none j openings before for none = comes_on [] refl for (tells_none none refl)
 
 -- ---- what stays, whatever is judged
@@ -90,13 +91,15 @@ longer start old new within more = omega (arith, within, ap length more.1, lengt
 
 -- ---- behind some more bits
 
-pub feeds : (old new : JudgeV) (before after : TrackV) (front more : List ℕ) (says : Verdict) (short : Bool) → new.desc ≡ old.desc → after.openings ≡ before.openings → old.refused ≡ None
+pub feeds : (old new : JudgeV) (before after : TrackV) (front more : List ℕ) (says : Verdict) (short : Bool)
+    → new.desc ≡ old.desc → after.openings ≡ before.openings → old.refused ≡ None
     → Judges (λ around made. Tells old.desc Writes (opened old) made around before after) old new more says
     → Continues (stands old before Going front) (stands new after (answer_of says short) front) more (answer_of says short)
 feeds old new before after front more says short same kept =
     let T : List Move → DescV → Type 0 = λ moves d. Tells d Writes [] moves (opened new) (nothing after.openings front) after in
     let O : List Move → OpeningsV → Type 0 = λ moves l. Tells old.desc Writes [] moves (opened new) (nothing l front) after in
-    following.feeds old new more (λ around made. Tells old.desc Writes (opened old) made around before after) (IsTold (stands old before Going front)) (IsTold (stands new after Going front))
+    following.feeds old new more (λ around made. Tells old.desc Writes (opened old) made around before after)
+    (IsTold (stands old before Going front)) (IsTold (stands new after Going front))
     (λ moves made told on. subst (T (moves ++ made)) (sym same) (subst (O (moves ++ made)) (sym kept) (tells-then old.desc told on))) says short same
 
 -- nothing was refused so far
@@ -130,7 +133,8 @@ module _ (j : JudgeV) (before after : TrackV) (front : List ℕ) where
   few_bits going few (judges_on stack done none seen cut stands for goes unread) = omega (arith, few, seen)
   few_bits going few (judges_no_more place refused at small) = let clash : None ≡ Some place = sym going ∙ refused in absurd (cc)
 
-  pub ends_text : TextsAreJoined → MeaningsAreBits → IsDescription j.desc → HasOneTree j.desc → HasOpenings j.desc before.openings → j.refused ≡ None → j.seen ≤ 524288
+  pub ends_text : TextsAreJoined → MeaningsAreBits → IsDescription j.desc → HasOneTree j.desc
+      → HasOpenings j.desc before.openings → j.refused ≡ None → j.seen ≤ 524288
       → after.refused ≡ false → EndSays judged.Ok → Ends (stands j before Going front) (Ok after.kept.text)
   ends_text joined are_bits is one are none few going judges b (comes_no_more other refusal at small) = absurd (cc)
   ends_text joined are_bits is one are none few going judges b (comes_on moves on for told) =
@@ -156,7 +160,8 @@ abbrev pub EndsAs : BlockV → Result (Unit {0}) BlockFault → List ℕ → Typ
 EndsAs w (Ok done) bytes = Ends w (Ok bytes)
 EndsAs w (Err why) bytes = Ends w (Err why)
 
-pub ends_as : (j : JudgeV) (before after : TrackV) (front : List ℕ) (answer : Fed) (says : Judged) (short : Bool) → StringsAreFollowed → TextsAreJoined → MeaningsAreBits
+pub ends_as : (j : JudgeV) (before after : TrackV) (front : List ℕ) (answer : Fed) (says : Judged) (short : Bool)
+    → StringsAreFollowed → TextsAreJoined → MeaningsAreBits
     → IsDescription j.desc → HasOneTree j.desc → HasOpenings j.desc before.openings → IsAnswer answer j → j.seen ≤ 524288 → short ≡ after.refused
     → JudgeEnds (λ around made. Tells j.desc Writes (opened j) made around before after) j says
     → EndsAs (stands j before answer front) (outcome_of answer says short) after.kept.text
@@ -168,7 +173,8 @@ ends_as j before after front NoMemory says short strings joined are_bits is one 
     λ b writes. absurd (following.wanting_none w.desc w.answer w.judge (IsTold w) refl b writes)
 ends_as j before after front Going (judged.Refused place) short strings joined are_bits is one are answer few wanting judges =
     following.ends_none j (λ around made. Tells j.desc Writes (opened j) made around before after) (IsTold (stands j before Going front)) place judges
-ends_as j before after front Going judged.Ok true strings joined are_bits is one are answer few wanting judges = ends_wanting j before after front strings judges
+ends_as j before after front Going judged.Ok true strings joined are_bits is one are answer few wanting judges =
+    ends_wanting j before after front strings judges
 ends_as j before after front Going judged.Ok false strings joined are_bits is one are answer few wanting judges =
     ends_text j before after front joined are_bits is one are answer few (sym wanting) judges
 
@@ -188,7 +194,8 @@ text_added w kept front old new (Ok done) same ends added = λ b writes.
 text_added w kept front old new (Err why) same ends added = tt
 
 -- or memory was wanting for it there
-pub text_wanting : StringsAreFollowed → (w : BlockV) (kept : List ℕ) (r : Result (Unit {0}) BlockFault) → Ends w (Ok kept) → IfErr r (λ why. why ≡ fault.NoMemory)
+pub text_wanting : StringsAreFollowed → (w : BlockV) (kept : List ℕ) (r : Result (Unit {0}) BlockFault)
+    → Ends w (Ok kept) → IfErr r (λ why. why ≡ fault.NoMemory)
     → IfErr r (λ why. Ends w (Err why))
 text_wanting strings w kept (Ok done) ends wanting = tt
 text_wanting strings w kept (Err why) ends wanting =
@@ -197,13 +204,15 @@ text_wanting strings w kept (Err why) ends wanting =
 
 -- ---- a block that comes at once
 
-pub whole_text : (old new : BlockV) (more : List ℕ) (fed : Fed) (out : List ℕ) → WritesFor old [] → Continues old new more fed → (fed ≡ NoMemory → ⊥) → Ends new (Ok out)
+pub whole_text : (old new : BlockV) (more : List ℕ) (fed : Fed) (out : List ℕ)
+    → WritesFor old [] → Continues old new more fed → (fed ≡ NoMemory → ⊥) → Ends new (Ok out)
     → AddsText new.form new.desc more new.before out
 whole_text old new more Going out none fed there ends = ends more (fed [] none).comes
 whole_text old new more (Refused place) out none fed there ends = ends more (fed [] none).comes
 whole_text old new more NoMemory out none fed there ends = absurd (there refl)
 
-pub whole_fault : (old new : BlockV) (more : List ℕ) (fed : Fed) (why : BlockFault) → new.desc ≡ old.desc → WritesFor old [] → Continues old new more fed → (fed ≡ NoMemory → why ≡ fault.NoMemory)
+pub whole_fault : (old new : BlockV) (more : List ℕ) (fed : Fed) (why : BlockFault)
+    → new.desc ≡ old.desc → WritesFor old [] → Continues old new more fed → (fed ≡ NoMemory → why ≡ fault.NoMemory)
     → Ends new (Err why) → IsFaultOf new.desc more why
 whole_fault old new more Going why same none fed there ends = ends more (fed [] none).comes
 whole_fault old new more (Refused place) why same none fed there ends = ends more (fed [] none).comes

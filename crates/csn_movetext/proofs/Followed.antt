@@ -37,19 +37,25 @@ module _ (d : DescV) where
 
   -- ---- what stays
 
-  pub same_openings : {around others : List ℕ} {moves : List Move} {old new : TrackV} → Tells d Writes around moves others old new → new.openings ≡ old.openings
+  pub same_openings : {around others : List ℕ} {moves : List Move} {old new : TrackV}
+      → Tells d Writes around moves others old new → new.openings ≡ old.openings
   same_openings (tells_none others_are new_is) = ap (λ (t : TrackV). t.openings) new_is
   same_openings (tells_enter node next at writes tells) = same_openings tells ∙ writes.same_openings
   same_openings (tells_bit node next at writes tells) = same_openings tells ∙ writes.same_openings
   same_openings (tells_leave node next at writes tells) = same_openings tells ∙ writes.same_openings
 
-  pub extends : {around others : List ℕ} {moves : List Move} {old new : TrackV} → Tells d Writes around moves others old new → Extends old.kept.text new.kept.text
+  pub extends : {around others : List ℕ} {moves : List Move} {old new : TrackV}
+      → Tells d Writes around moves others old new → Extends old.kept.text new.kept.text
   extends {old = old} {new = new} (tells_none others_are new_is) = extends_none old.kept.text new.kept.text (ap (λ (t : TrackV). t.kept.text) new_is)
-  extends {old = old} {new = new} (tells_enter node next at writes tells) = extends_then old.kept.text next.kept.text new.kept.text writes.extends (extends tells)
-  extends {old = old} {new = new} (tells_bit node next at writes tells) = extends_then old.kept.text next.kept.text new.kept.text writes.extends (extends tells)
-  extends {old = old} {new = new} (tells_leave node next at writes tells) = extends_then old.kept.text next.kept.text new.kept.text writes.extends (extends tells)
+  extends {old = old} {new = new} (tells_enter node next at writes tells) =
+      extends_then old.kept.text next.kept.text new.kept.text writes.extends (extends tells)
+  extends {old = old} {new = new} (tells_bit node next at writes tells) =
+      extends_then old.kept.text next.kept.text new.kept.text writes.extends (extends tells)
+  extends {old = old} {new = new} (tells_leave node next at writes tells) =
+      extends_then old.kept.text next.kept.text new.kept.text writes.extends (extends tells)
 
-  pub going_before : {around others : List ℕ} {moves : List Move} {old new : TrackV} → Tells d Writes around moves others old new → new.refused ≡ false → old.refused ≡ false
+  pub going_before : {around others : List ℕ} {moves : List Move} {old new : TrackV}
+      → Tells d Writes around moves others old new → new.refused ≡ false → old.refused ≡ false
   going_before (tells_none others_are new_is) going = sym (ap (λ (t : TrackV). t.refused) new_is) ∙ going
   going_before (tells_enter node next at writes tells) going = writes.going (going_before tells going)
   going_before (tells_bit node next at writes tells) going = writes.going (going_before tells going)
@@ -63,15 +69,21 @@ module _ (d : DescV) where
       (w u : WritingV) → Shown old w → written_by old.openings.form (opening_in old.openings) w (with_nodes d nodes moves) ≡ Some u → Shown new u
 
   one_move :
-      (old next new : TrackV) (move : Move) (node : Node) (nodes : List Node) (moves : List Move) → Writes old move node next → next.refused ≡ false → GoesOn next new nodes moves
-      → (w u : WritingV) → Shown old w → option_and_then (λ x. written_by old.openings.form (opening_in old.openings) x (with_nodes d nodes moves)) (behind old.openings.form (opening_in old.openings) move node w) ≡ Some u → Shown new u
+      (old next new : TrackV) (move : Move) (node : Node) (nodes : List Node) (moves : List Move)
+      → Writes old move node next → next.refused ≡ false → GoesOn next new nodes moves
+      → (w u : WritingV)
+      → Shown old w → option_and_then (λ x. written_by old.openings.form (opening_in old.openings) x
+      (with_nodes d nodes moves)) (behind old.openings.form (opening_in old.openings) move node w) ≡ Some u
+      → Shown new u
   one_move old next new move node nodes moves writes going later w u shown e =
-      let g = goes_on (behind old.openings.form (opening_in old.openings) move node w) (λ x. written_by old.openings.form (opening_in old.openings) x (with_nodes d nodes moves)) u e in
+      let g = goes_on (behind old.openings.form (opening_in old.openings) move node w)
+      (λ x. written_by old.openings.form (opening_in old.openings) x (with_nodes d nodes moves)) u e in
       later g.next u (writes.goes_on going w g.next shown g.first)
       (ap (λ l. written_by l.form (opening_in l) g.next (with_nodes d nodes moves)) writes.same_openings ∙ g.later)
 
   pub followed :
-      {around others : List ℕ} {moves : List Move} {old new : TrackV} (nodes : List Node) → AreNodes around nodes → Tells d Writes around moves others old new → new.refused ≡ false
+      {around others : List ℕ} {moves : List Move} {old new : TrackV} (nodes : List Node)
+      → AreNodes around nodes → Tells d Writes around moves others old new → new.refused ≡ false
       → GoesOn old new nodes moves
   followed {old = old} nodes are (tells_none others_are new_is) going w u shown e =
       let same : w ≡ u = cc in
@@ -79,21 +91,25 @@ module _ (d : DescV) where
   followed {old = old} {new = new} nodes are (tells_enter {i = i} {moves = moves} node next at writes tells) going w u shown e =
       let with_it : written_by old.openings.form (opening_in old.openings) w (with_node (Enter i) (Some node) (with_nodes d (node ∷ nodes) moves)) ≡ Some u =
       sym (ap (λ o. written_by old.openings.form (opening_in old.openings) w (with_node (Enter i) o (with_nodes d (inside o nodes) moves))) at) ∙ e in
-      one_move old next new (Enter i) node (node ∷ nodes) moves writes (going_before tells going) (followed (node ∷ nodes) (at, are) tells going) w u shown with_it
+      one_move old next new (Enter i) node (node ∷ nodes) moves writes (going_before tells going)
+      (followed (node ∷ nodes) (at, are) tells going) w u shown with_it
   followed [] are (tells_bit node next at writes tells) going w u shown e = absurd are
   followed {old = old} {new = new} (n ∷ nodes) are (tells_bit {bit = bit} {moves = moves} node next at writes tells) going w u shown e =
       let twice : Some node ≡ Some n = sym at ∙ are.0 in
       let same : node ≡ n = cc in
-      one_move old next new (Bit bit) n (n ∷ nodes) moves (subst (λ m. Writes old (Bit bit) m next) same writes) (going_before tells going) (followed (n ∷ nodes) are tells going) w u shown e
+      one_move old next new (Bit bit) n (n ∷ nodes) moves (subst (λ m. Writes old (Bit bit) m next) same writes)
+      (going_before tells going) (followed (n ∷ nodes) are tells going) w u shown e
   followed [] are (tells_leave node next at writes tells) going w u shown e = absurd are
   followed {old = old} {new = new} (n ∷ nodes) are (tells_leave {moves = moves} node next at writes tells) going w u shown e =
       let twice : Some node ≡ Some n = sym at ∙ are.0 in
       let same : node ≡ n = cc in
-      one_move old next new Leave n nodes moves (subst (λ m. Writes old Leave m next) same writes) (going_before tells going) (followed nodes are.1 tells going) w u shown e
+      one_move old next new Leave n nodes moves (subst (λ m. Writes old Leave m next) same writes)
+      (going_before tells going) (followed nodes are.1 tells going) w u shown e
 
   -- ---- moves after others
 
-  pub tells-then : {around middle others : List ℕ} {first second : List Move} {old state new : TrackV} → Tells d Writes around first middle old state → Tells d Writes middle second others state new
+  pub tells-then : {around middle others : List ℕ} {first second : List Move} {old state new : TrackV}
+      → Tells d Writes around first middle old state → Tells d Writes middle second others state new
       → Tells d Writes around (first ++ second) others old new
   tells-then {around = around} {others = others} {second = second} {state = state} {new = new} (tells_none open_is new_is) later =
       let P : List ℕ → Type 0 = λ a. Tells d Writes a second others state new in
@@ -128,6 +144,8 @@ all_written t text left s =
     let same : text ≡ s.before.text = ap (λ (w : WritingV). w.text) s.with_pending in
     let cut : [] ≡ s.shows.front ++ s.shows.back = sym none ∙ s.shows.cut in
     s.shows.written
-    ∙ ap (λ l. s.before.text ++ l) (nothing_ahead t.openings.form t.kept.long s.shows.front s.shows.back (first_none s.shows.front s.shows.back cut) (second_none s.shows.front s.shows.back cut) s.shows.written_ahead)
+    ∙ ap (λ l. s.before.text ++ l) (nothing_ahead t.openings.form t.kept.long s.shows.front s.shows.back
+    (first_none s.shows.front s.shows.back cut) (second_none s.shows.front s.shows.back cut)
+    s.shows.written_ahead)
     ∙ append-nil s.before.text
     ∙ sym same

@@ -1,5 +1,7 @@
 -- What is kept of an open leaf, move by move.
-use Rattle.std.proofs.Common.{◌≡◌, ℕ, ◌+◌, ◌-◌, ◌*◌, ◌%◌, ◌^◌, ◌<◌, ◌≤◌, Bool, true, false, List, [], ◌∷◌, ◌++◌, length, refl, sym, ap, subst, ◌∙◌, arith, append_assoc, append-nil, length-append, bit_or}
+use Rattle.std.proofs.Common.{◌≡◌, ℕ, ◌+◌, ◌-◌, ◌*◌, ◌%◌, ◌^◌, ◌<◌, ◌≤◌, Bool, true, false, List, [], ◌∷◌, ◌++◌}
+use Rattle.std.proofs.Common.{length, refl, sym, ap, subst, ◌∙◌, arith, append_assoc, append-nil, length-append}
+use Rattle.std.proofs.Common.{bit_or}
 use Rattle.std.proofs.lemmas.Nat.{mul-le, one_shl, or_shifted, pow-add, pow_pos}
 use Rattle.std.proofs.Math.Pow.{pow_mono}
 use Rattle.hex.specs.Hex.{encode_upper, encode_with}
@@ -17,7 +19,8 @@ use Rattle.csn_movetext.specs.Kept.{KeptV, begun, sign, IsFront, Shows, Flushed}
 use Rattle.csn_movetext.proofs.Octets.{low_octet}
 
 -- bits that are shifted lose none
-pub shifted : (bits held count value : ℕ) → bits < 2 ^ held → held + count ≤ 64 → value < 2 ^ count → bit_or (bits * 2 ^ count % 18446744073709551616) value ≡ bits * 2 ^ count + value
+pub shifted : (bits held count value : ℕ) → bits < 2 ^ held → held + count ≤ 64 → value < 2 ^ count
+    → bit_or (bits * 2 ^ count % 18446744073709551616) value ≡ bits * 2 ^ count + value
 shifted bits held count value small room value_small =
     let power : 2 ^ (held + count) ≡ 2 ^ held * 2 ^ count = pow-add 2 held count in
     let most : 2 ^ (held + count) ≤ 2 ^ 64 = pow_mono {i = held + count} {j = 64} room in
@@ -41,13 +44,15 @@ ahead form true text front back {out} f many whole is wrote =
     wrote ∙ ap (λ o. o ++ encode_upper (octets_of f)) (append-nil out ∙ is)
     ∙ append_assoc text (octets_sign form ++ encode_upper (octets_of front)) (encode_upper (octets_of f))
     ∙ ap (λ l. text ++ l) (append_assoc (octets_sign form) (encode_upper (octets_of front)) (encode_upper (octets_of f)))
-    ∙ ap (λ l. text ++ (octets_sign form ++ l)) (sym (encode_upper-append (octets_of front) (octets_of f)) ∙ ap encode_upper (sym (octets_of-append front f whole)))
+    ∙ ap (λ l. text ++ (octets_sign form ++ l)) (sym (encode_upper-append (octets_of front) (octets_of f))
+    ∙ ap encode_upper (sym (octets_of-append front f whole)))
 
 front_more : (long : Bool) (front back low : List ℕ) → IsFront long front back → IsFront long front (back ++ low)
 front_more false front back low h = h
 front_more true front back low h = omega (arith, h, length-append back low)
 
-held_number : (back : List ℕ) (bits count number : ℕ) → bits ≡ number_of back → bits * 2 ^ count + number % 2 ^ count ≡ number_of (back ++ low_bits count number)
+held_number : (back : List ℕ) (bits count number : ℕ)
+    → bits ≡ number_of back → bits * 2 ^ count + number % 2 ^ count ≡ number_of (back ++ low_bits count number)
 held_number back bits count number is =
     ap (λ n. n * 2 ^ count + number % 2 ^ count) is
     ∙ ap (λ n. number_of back * 2 ^ count + n) (sym (number_of-low_bits count number))
@@ -83,7 +88,8 @@ took_shows form old new w number count held_is bits_is text_is left_same long_sa
 
 -- what the held bits of a text come to, where their whole octets are written
 abbrev pub Flushes : TreeForm → KeptV → KeptV → Type 0
-Flushes form old new = (b : List ℕ) → IsBits b → length b ≡ old.held → number_of b ≡ old.bits → Flushed (old.text ++ sign form old.long) new.text b new.held new.bits
+Flushes form old new = (b : List ℕ) → IsBits b → length b ≡ old.held → number_of b ≡ old.bits
+    → Flushed (old.text ++ sign form old.long) new.text b new.held new.bits
 
 -- the same where the whole octets are written first
 pub flushed_shows :
@@ -109,7 +115,8 @@ flushed_shows form old mid new w number count many flush long_is left_same held_
           ∙ append_assoc (s.front ++ f.front) f.back low;
       octets = omega (arith, fronts, s.octets, f.octets);
       written_ahead = subst (λ b. IsFront b (s.front ++ f.front) (f.back ++ low)) (sym always) (omega (arith, many, s.count, whole, fronts, backs, wide));
-      written = text_is ∙ ahead form old.long w.text s.front s.back f.front s.written_ahead s.octets s.written f.written ∙ ap (λ b. w.text ++ begun form b (s.front ++ f.front)) (sym always);
+      written = text_is ∙ ahead form old.long w.text s.front s.back f.front s.written_ahead s.octets s.written
+          f.written ∙ ap (λ b. w.text ++ begun form b (s.front ++ f.front)) (sym always);
       count = omega (arith, held_is, f.count, wide, backs);
       number = bits_is (bits_small f.back mid.held mid.bits f.count f.number f.back_bits) ∙ held_number f.back mid.bits count number f.number;
       front_bits = IsBits-append s.front f.front s.front_bits f.front_bits;
@@ -120,7 +127,8 @@ flushed_shows form old mid new w number count many flush long_is left_same held_
 -- ---- the end of a leaf that is written as octets
 
 -- what some bits that fill no octet write
-tail_octet : (back : List ℕ) → 0 < length back → length back < 8 → IsBits back → octets_of back ≡ number_of back * 2 ^ (8 - length back) % 18446744073709551616 % 256 ∷ []
+tail_octet : (back : List ℕ) → 0 < length back → length back < 8 → IsBits back → octets_of back ≡ number_of back * 2 ^
+    (8 - length back) % 18446744073709551616 % 256 ∷ []
 tail_octet [] some few are = absurd (omega arith)
 tail_octet (a ∷ []) some few (pa, _) = ap (λ n. n ∷ []) (omega arith)
 tail_octet (a ∷ b ∷ []) some few (pa, (pb, _)) = ap (λ n. n ∷ []) (omega arith)
@@ -142,7 +150,8 @@ pub record Ended (form : TreeForm) (text gathered out : List ℕ) (held bits : �
   number : bits ≡ number_of back
   back_bits : IsBits back
 
-pub ended : (form : TreeForm) (old mid : KeptV) (w : WritingV) → Flushes form old mid → Shows form old w → Ended form w.text w.gathered mid.text mid.held mid.bits
+pub ended : (form : TreeForm) (old mid : KeptV) (w : WritingV) → Flushes form old mid → Shows form old w
+    → Ended form w.text w.gathered mid.text mid.held mid.bits
 ended form old mid w flush s =
     let f = flush s.back s.back_bits (sym s.count) (sym s.number) in
     let fronts = length-append s.front f.front in
@@ -170,10 +179,12 @@ line_is {gathered = gathered} some e =
     ∙ ap (λ l. encode_upper l ++ tail_written (length gathered % 8)) (octets_of-append e.front e.back e.whole)
     ∙ ap (λ l. l ++ tail_written (length gathered % 8)) (encode_upper-append (octets_of e.front) (octets_of e.back))
 
-left_over : {form : TreeForm} {text gathered out : List ℕ} {held bits : ℕ} → held < 8 → (e : Ended form text gathered out held bits) → length gathered % 8 ≡ held
+left_over : {form : TreeForm} {text gathered out : List ℕ} {held bits : ℕ}
+    → held < 8 → (e : Ended form text gathered out held bits) → length gathered % 8 ≡ held
 left_over few e = omega (arith, few, ap length e.cut, length-append e.front e.back, e.whole, e.count)
 
-pub end_whole : {form : TreeForm} {text gathered out : List ℕ} {held bits : ℕ} → 1 ≤ length gathered → held < 8 → held ≤ 0 → Ended form text gathered out held bits
+pub end_whole : {form : TreeForm} {text gathered out : List ℕ} {held bits : ℕ} → 1 ≤ length gathered → held < 8
+    → held ≤ 0 → Ended form text gathered out held bits
     → out ≡ text ++ (octets_sign form ++ written gathered)
 end_whole {form} {text} {gathered} {out} {held} any few none e =
     let zero_left : held ≡ 0 = omega (arith, none) in
@@ -212,5 +223,6 @@ end_part {form} {text} {gathered} {out} {out2} {held} {bits} v any few some is w
     ∙ ap (λ l. text ++ (S ++ l)) (sym (line_is any e))
 
 -- the remainder that a machine takes is that of the power
-pub last_bits : (number count : ℕ) (rest : ℕ) {bits : ℕ} → count ≤ 56 → bits ≡ rest + number % (1 * 2 ^ count % 18446744073709551616) → bits ≡ rest + number % 2 ^ count
+pub last_bits : (number count : ℕ) (rest : ℕ) {bits : ℕ}
+    → count ≤ 56 → bits ≡ rest + number % (1 * 2 ^ count % 18446744073709551616) → bits ≡ rest + number % 2 ^ count
 last_bits number count rest few is = is ∙ ap (λ m. rest + number % m) (one_shl count 64 (omega (arith, few)))

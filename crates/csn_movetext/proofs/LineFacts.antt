@@ -1,5 +1,7 @@
 -- The text of a block line while the line comes, and at its end.
-use Rattle.std.proofs.Common.{◌≡◌, ℕ, ◌+◌, ◌-◌, ◌*◌, ◌<◌, ◌≤◌, List, [], ◌∷◌, ◌++◌, length, take, drop, get_or, slice_set, refl, sym, ap, subst, ◌∙◌, arith, append_assoc, length-append, length-drop, codes}
+use Rattle.std.proofs.Common.{◌≡◌, ℕ, ◌+◌, ◌-◌, ◌*◌, ◌<◌, ◌≤◌, List, [], ◌∷◌, ◌++◌, length, take, drop, get_or}
+use Rattle.std.proofs.Common.{slice_set, refl, sym, ap, subst, ◌∙◌, arith, append_assoc, length-append, length-drop}
+use Rattle.std.proofs.Common.{codes}
 use Rattle.std.specs.Prelude.{Result, Ok, Err, IfOk}
 use Rattle.std.proofs.Math.Seq.{take-add}
 use Rattle.std.proofs.lemmas.List.{drop-take, length-take, length-take-le, take-take, take_all}
@@ -32,7 +34,8 @@ goes_on old new more Going is stays continues b writes fits = (continues b (writ
 goes_on old new more (Refused place) is stays continues b writes fits = (continues b (writes (wants_still old new stays fits))).comes
 goes_on old new more NoMemory is stays continues b writes fits = absurd (fits is)
 
-seen_by : (answer : Answer) (old new : BlockV) (bits : ℕ) → old.answer ≡ answer → (old.answer ≡ Going → new.seen ≡ old.seen + bits) → (¬ (old.answer ≡ Going) → new ≡ old)
+seen_by : (answer : Answer) (old new : BlockV) (bits : ℕ)
+    → old.answer ≡ answer → (old.answer ≡ Going → new.seen ≡ old.seen + bits) → (¬ (old.answer ≡ Going) → new ≡ old)
     → new.seen ≤ old.seen + bits
 seen_by Going old new bits is going stays = omega (arith, going is)
 seen_by (Refused place) old new bits is going stays =
@@ -42,7 +45,8 @@ seen_by NoMemory old new bits is going stays =
     let same : new.seen ≡ old.seen = ap (λ (w : BlockV). w.seen) (stays (λ on. let clash : NoMemory ≡ Going = sym is ∙ on in absurd (cc))) in
     omega (arith, same)
 
-pub seen_grows : (old new : BlockV) (bits : ℕ) → (old.answer ≡ Going → new.seen ≡ old.seen + bits) → (¬ (old.answer ≡ Going) → new ≡ old) → new.seen ≤ old.seen + bits
+pub seen_grows : (old new : BlockV) (bits : ℕ) → (old.answer ≡ Going → new.seen ≡ old.seen + bits)
+    → (¬ (old.answer ≡ Going) → new ≡ old) → new.seen ≤ old.seen + bits
 seen_grows old new bits going stays = seen_by old.answer old new bits refl going stays
 
 -- all bits of octets
@@ -51,12 +55,15 @@ whole_bits octets bits all = take_all bits (bits_of_octets octets) (omega (arith
 
 -- some bits of an octet
 pub goes_on_within : (old new : BlockV) (octet bits taken : ℕ) (answer : Answer) → taken ≡ bits → new.answer ≡ answer → (¬ (old.answer ≡ Going) → new ≡ old)
-    → Continues old new (take taken (bits_of_octets (octet ∷ []))) answer → (b : List ℕ) → WritesOrWants old b → WritesOrWants new (b ++ take bits (bits_of_octet octet))
+    → Continues old new (take taken (bits_of_octets (octet ∷ []))) answer → (b : List ℕ)
+    → WritesOrWants old b → WritesOrWants new (b ++ take bits (bits_of_octet octet))
 goes_on_within old new octet bits taken answer same is stays continues b writes =
-    subst (λ n. WritesOrWants new (b ++ take n (bits_of_octet octet))) same (goes_on old new (take taken (bits_of_octets (octet ∷ []))) answer is stays continues b writes)
+    subst (λ n. WritesOrWants new (b ++ take n (bits_of_octet octet))) same
+    (goes_on old new (take taken (bits_of_octets (octet ∷ []))) answer is stays continues b writes)
 
 front_with : (b more : List ℕ) (size count : ℕ) → length b ≡ size → count ≤ length more → length (b ++ take count more) ≡ size + count
-front_with b more size count is few = length-append b (take count more) ∙ ap (λ n. n + length (take count more)) is ∙ ap (λ n. size + n) (length-take-le count more few)
+front_with b more size count is few = length-append b (take count more) ∙ ap (λ n. n + length (take count more)) is
+    ∙ ap (λ n. size + n) (length-take-le count more few)
 
 -- how many bits a block has that ends with some bits of an octet
 pub bits_with : (b : List ℕ) (octets octet bits : ℕ) → length b ≡ 8 * octets → bits ≤ 8 → length (b ++ take bits (bits_of_octet octet)) ≡ 8 * octets + bits
@@ -82,18 +89,21 @@ reads_none t fed count given seen writes =
     }
 
 -- the next line begins
-pub reads_anew : (feed fresh : HexFeed) (given : OctetText) → feed ≡ fresh → Fed fresh [] → seen_of fresh ≡ 0 → given.octets ≡ 0 → given.block.seen ≡ 0 → WritesFor given.block []
+pub reads_anew : (feed fresh : HexFeed) (given : OctetText) → feed ≡ fresh → Fed fresh [] → seen_of fresh ≡ 0
+    → given.octets ≡ 0 → given.block.seen ≡ 0 → WritesFor given.block []
     → ReadsLine (line_of (record { feed = feed; given = given })) []
 reads_anew feed fresh given is fed count none seen writes =
     let F : HexFeed → Type 0 = λ f. ReadsLine (line_of (record { feed = f; given = given })) [] in
     subst F (sym is) (reads_none (line_of (record { feed = fresh; given = given })) fed count none seen writes)
 
 -- some more bytes of it give some more octets
-pub reads_more : (old new : LineV) (line more octets : List ℕ) → ReadsLine old line → Fed new.feed (line ++ more) → octets_given (line ++ more) ≡ octets_given line ++ octets
+pub reads_more : (old new : LineV) (line more octets : List ℕ) → ReadsLine old line → Fed new.feed (line ++ more)
+    → octets_given (line ++ more) ≡ octets_given line ++ octets
     → new.seen ≡ old.seen + length more → new.octets ≡ old.octets + length octets → new.block.seen ≤ 8 * new.octets
     → ((b : List ℕ) → WritesOrWants old.block b → WritesOrWants new.block (b ++ bits_of_octets octets)) → ReadsLine new (line ++ more)
 reads_more old new line more octets reads fed gives seen given few writes =
-    let count : length (octets_given (line ++ more)) ≡ length (octets_given line) + length octets = ap length gives ∙ length-append (octets_given line) octets in
+    let count : length (octets_given (line ++ more)) ≡ length (octets_given line) + length octets = ap length gives
+    ∙ length-append (octets_given line) octets in
     let bits : bits_of_octets (octets_given (line ++ more)) ≡ bits_of_octets (octets_given line) ++ bits_of_octets octets =
     ap (λ l. bits_of_octets l) gives ∙ bits_of_octets-append (octets_given line) octets in
     record {
@@ -108,9 +118,11 @@ few_sum : (given front all more : ℕ) → given ≡ front → all ≡ front + m
 few_sum given front all more is whole few = omega (arith, is, whole, few)
 
 -- some octets more are no more than a block has
-pub few_more : (line more octets : List ℕ) (given : ℕ) → given ≡ length (octets_given line) → octets_given (line ++ more) ≡ octets_given line ++ octets → given + length octets ≤ 65536
+pub few_more : (line more octets : List ℕ) (given : ℕ) → given ≡ length (octets_given line)
+    → octets_given (line ++ more) ≡ octets_given line ++ octets → given + length octets ≤ 65536
 few_more line more octets given is gives =
-    few_sum given (length (octets_given line)) (length (octets_given (line ++ more))) (length octets) is (ap length gives ∙ length-append (octets_given line) octets) (few_given (line ++ more))
+    few_sum given (length (octets_given line)) (length (octets_given (line ++ more))) (length octets) is
+    (ap length gives ∙ length-append (octets_given line) octets) (few_given (line ++ more))
 
 -- a part of a list
 pub part_is : (from to : ℕ) (xs : List ℕ) → from ≤ to → drop from (take to xs) ≡ take (to - from) (drop from xs)
@@ -119,7 +131,8 @@ part_is from to xs within =
     ap (λ n. drop from (take n xs)) (sym whole) ∙ drop-take from (to - from) xs
 
 -- the first of a part are those behind what stands before it
-pub part_taken : (bytes : List ℕ) (at size count : ℕ) → count ≤ length (take size (drop at bytes)) → take count (take size (drop at bytes)) ≡ take count (drop at bytes)
+pub part_taken : (bytes : List ℕ) (at size count : ℕ) → count ≤ length (take size (drop at bytes))
+    → take count (take size (drop at bytes)) ≡ take count (drop at bytes)
 part_taken bytes at size count within = take-take count size (drop at bytes) (omega (arith, within, length-take size (drop at bytes)))
 
 pub part_within : (bytes : List ℕ) (at size count : ℕ) → at ≤ length bytes → count ≤ length (take size (drop at bytes)) → at + count ≤ length bytes
@@ -135,20 +148,23 @@ first_set [] x some = absurd (omega (arith, some))
 first_set (y ∷ xs) x some = refl
 
 -- the bytes of a part, and then some behind them
-pub more_taken : (line bytes part : List ℕ) (at count : ℕ) → part ≡ take count (drop at bytes) → (line ++ take at bytes) ++ part ≡ line ++ take (at + count) bytes
+pub more_taken : (line bytes part : List ℕ) (at count : ℕ) → part ≡ take count (drop at bytes)
+    → (line ++ take at bytes) ++ part ≡ line ++ take (at + count) bytes
 more_taken line bytes part at count is =
     append_assoc line (take at bytes) part ∙ ap (λ l. line ++ l) (ap (λ p. take at bytes ++ p) is ∙ sym (take-add at count bytes))
 
 -- ---- the end of the line
 
-ends_spelled : (form : TreeForm) (d : DescV) (line b old new : List ℕ) (e : LineEnd) → BlockLine line b → EndsBlock form d b e old new → EndsText form d line e old new
+ends_spelled : (form : TreeForm) (d : DescV) (line b old new : List ℕ) (e : LineEnd)
+    → BlockLine line b → EndsBlock form d b e old new → EndsText form d line e old new
 ends_spelled form d line b old new (end.Text bits) spells ends = (b, spells, ends.0, ends.1)
 ends_spelled form d line b old new (end.Refused place bits) spells ends = (b, spells, ends.0, ends.1, ends.2)
 ends_spelled form d line b old new (end.Fault why) spells ends = absurd ends
 
 -- the block of a line
 pub ends_with : (t : LineV) (octet bits : ℕ) (old new : List ℕ) (e : LineEnd)
-    → ((line : List ℕ) → ReadsLine t line → EndsBlock t.form t.desc (bits_of_octets (octets_given line) ++ take bits (bits_of_octet octet)) e old new → EndsText t.form t.desc line e old new)
+    → ((line : List ℕ) → ReadsLine t line → EndsBlock t.form t.desc (bits_of_octets (octets_given line) ++ take bits
+    (bits_of_octet octet)) e old new → EndsText t.form t.desc line e old new)
     → ((b : List ℕ) → length b ≡ 8 * t.octets → WritesOrWants t.block b → EndsBlock t.form t.desc (b ++ take bits (bits_of_octet octet)) e old new)
     → (line : List ℕ) → ReadsLine t line → EndsText t.form t.desc line e old new
 ends_with t octet bits old new e spelled ends line reads =
@@ -161,7 +177,8 @@ if_ok (Err e) P Q map for = tt
 pub ends_empty : (form : TreeForm) (d : DescV) (line old new : List ℕ) (e : LineEnd) → line ≡ codes "."
     → EndsBlock form d (bits_of_octets (octets_given line) ++ []) e old new → EndsText form d line e old new
 ends_empty form d line old new e dot ends =
-    ends_spelled form d line [] old new e (subst (λ l. BlockLine l []) (sym dot) block_line-dot) (subst (λ l. EndsBlock form d (bits_of_octets (octets_given l) ++ []) e old new) dot ends)
+    ends_spelled form d line [] old new e (subst (λ l. BlockLine l []) (sym dot) block_line-dot)
+    (subst (λ l. EndsBlock form d (bits_of_octets (octets_given l) ++ []) e old new) dot ends)
 
 pub ends_last : (form : TreeForm) (d : DescV) (line old new : List ℕ) (octet bits : ℕ) (e : LineEnd) → EndsWith line octet bits
     → EndsBlock form d (bits_of_octets (octets_given line) ++ take bits (bits_of_octet octet)) e old new → EndsText form d line e old new

@@ -1,5 +1,6 @@
 -- The numbers of alternatives are gathered.
-use Rattle.std.proofs.Common.{◌≡◌, ℕ, zero, suc, ◌+◌, ◌<◌, List, [], ◌∷◌, length, set, replicate, Option, Some, None, refl, sym, ◌∙◌, subst, ap, arith, inl, inr}
+use Rattle.std.proofs.Common.{◌≡◌, ℕ, zero, suc, ◌+◌, ◌<◌, List, [], ◌∷◌, length, set, replicate, Option, Some, None}
+use Rattle.std.proofs.Common.{refl, sym, ◌∙◌, subst, ap, arith, inl, inr}
 use Rattle.std.specs.Prelude.{slice_get}
 use Rattle.std.proofs.lemmas.Option.{slice_get_within, slice_get-get_or}
 use Rattle.std.proofs.lemmas.List.{get_or-replicate, length-replicate}
@@ -94,7 +95,8 @@ numbers_same d c n numbers at other are =
       only = are.only;
     }
 
-pub parts_within : (d : DescV) (c k part : ℕ) (n : Node) → IsDescription d → slice_get d.nodes c ≡ Some n → slice_get (parts_of n) k ≡ Some part → part < length d.nodes
+pub parts_within : (d : DescV) (c k part : ℕ) (n : Node) → IsDescription d → slice_get d.nodes c ≡ Some n
+    → slice_get (parts_of n) k ≡ Some part → part < length d.nodes
 parts_within d c k part n is at get =
     let s = span_inside d.nodes c is.numbered (omega arith) (slice_get_within d.nodes c n at) in
     let below = part_before d.nodes k part (span_parts d.nodes at s.span) get in
@@ -104,7 +106,12 @@ pub numbers_next :
     (d : DescV) (c : ℕ) (parts : List ℕ) (old new : List (Option ℕ)) → IsDescription d → slice_get d.nodes c ≡ Some (Choice parts)
     → length new ≡ length old → ((i : ℕ) → Numbered parts (length parts) old new i) → AreNumbers d c old → AreNumbers d (c + 1) new
 numbers_next d c parts old new is at long numbered are =
-    record { all = long ∙ are.all; given = λ e k i others small there get. given_here e k i others small there get (numbered i); only = λ i k there. only_here i k there (numbered i) }
+    record {
+      all = long ∙ are.all;
+      given = λ e k i others small there get. given_here e k i others small there get
+          (numbered i);
+      only = λ i k there. only_here i k there (numbered i);
+    }
   where
     given_here : (e k i : ℕ) (others : List ℕ) → e < c + 1 → slice_get d.nodes e ≡ Some (Choice others) → slice_get others k ≡ Some i
         → Numbered parts (length parts) old new i → slice_get new i ≡ Some (Some k)

@@ -1,5 +1,6 @@
 -- Bits of an open leaf that are written as octets.
-use Rattle.std.proofs.Common.{◌≡◌, ℕ, ◌+◌, ◌-◌, ◌*◌, ◌/◌, ◌%◌, ◌^◌, ◌<◌, List, [], ◌∷◌, ◌++◌, length, drop, set, slice_index, refl, sym, ap, ◌∙◌, arith, append_assoc, append-nil, length-set}
+use Rattle.std.proofs.Common.{◌≡◌, ℕ, ◌+◌, ◌-◌, ◌*◌, ◌/◌, ◌%◌, ◌^◌, ◌<◌, List, [], ◌∷◌, ◌++◌, length, drop, set}
+use Rattle.std.proofs.Common.{slice_index, refl, sym, ap, ◌∙◌, arith, append_assoc, append-nil, length-set}
 use Rattle.std.specs.Prelude.{Result, Ok, Err, OnOk}
 use Rattle.std.proofs.lemmas.List.{drop-set}
 use Rattle.hex.specs.Hex.{upper_digits, encode_upper, encode_with}
@@ -19,7 +20,8 @@ low_octet v =
 -- the digits of one octet more, before those of the last ones
 octet_before :
     (number k : ℕ) → encode_upper (octets_of (low_bits (8 * (k + 1)) number))
-    ≡ slice_index upper_digits (number / 2 ^ (8 * k) % 256 / 16) ∷ slice_index upper_digits (number / 2 ^ (8 * k) % 256 % 16) ∷ encode_upper (octets_of (low_bits (8 * k) number))
+    ≡ slice_index upper_digits (number / 2 ^ (8 * k) % 256 / 16) ∷ slice_index upper_digits
+    (number / 2 ^ (8 * k) % 256 % 16) ∷ encode_upper (octets_of (low_bits (8 * k) number))
 unfolding encode_with
 octet_before number k =
     let v : ℕ = number / 2 ^ (8 * k) in
@@ -46,7 +48,8 @@ digits_before number k first octet low high digits long at few is low_is high_is
     ∙ ap (λ n. high ∷ low ∷ drop n digits) here
     ∙ ap (λ l. high ∷ low ∷ l) last
     ∙ ap (λ n. n ∷ low ∷ encode_upper (octets_of (low_bits (8 * k) number))) (high_is ∙ ap (λ n. slice_index upper_digits (n / 16)) is)
-    ∙ ap (λ n. slice_index upper_digits (number / 2 ^ (8 * k) % 256 / 16) ∷ n ∷ encode_upper (octets_of (low_bits (8 * k) number))) (low_is ∙ ap (λ n. slice_index upper_digits (n % 16)) is)
+    ∙ ap (λ n. slice_index upper_digits (number / 2 ^ (8 * k) % 256 / 16) ∷ n ∷ encode_upper
+    (octets_of (low_bits (8 * k) number))) (low_is ∙ ap (λ n. slice_index upper_digits (n % 16)) is)
     ∙ sym (octet_before number k)
 
 -- held bits whose whole octets are written

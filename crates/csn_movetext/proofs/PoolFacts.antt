@@ -1,5 +1,7 @@
 -- Openings that are made one after another.
-use Rattle.std.proofs.Common.{◌≡◌, ℕ, zero, suc, ◌+◌, ◌-◌, ◌<◌, List, [], ◌∷◌, ◌++◌, length, take, drop, map, ◌⊎◌, Option, Some, None, unwrap_or, get_or, refl, sym, ◌∙◌, subst, ap, arith, inl, inr, length-append, length-drop}
+use Rattle.std.proofs.Common.{◌≡◌, ℕ, zero, suc, ◌+◌, ◌-◌, ◌<◌, List, [], ◌∷◌, ◌++◌, length, take, drop, map, ◌⊎◌}
+use Rattle.std.proofs.Common.{Option, Some, None, unwrap_or, get_or, refl, sym, ◌∙◌, subst, ap, arith, inl, inr}
+use Rattle.std.proofs.Common.{length-append, length-drop}
 use Rattle.std.specs.Prelude.{slice_get}
 use Rattle.std.proofs.Math.Seq.{drop-append_seam, take-length}
 use Rattle.std.proofs.lemmas.Option.{slice_get_within, slice_get-get_or}
@@ -62,7 +64,8 @@ pub longer_within : (pool more new : List ℕ) (places : List Place) → ((i : �
 longer_within pool more new places are same i p at =
     let is = are i p at in (is.0, omega (arith, is.1, ap length same, length-append pool more))
 
-slice_get-push : {X : Type 0} (xs : List X) (x y : X) (i : ℕ) → slice_get (xs ++ x ∷ []) i ≡ Some y → (P : X → Type 0) → ((j : ℕ) (z : X) → slice_get xs j ≡ Some z → P z) → P x → P y
+slice_get-push : {X : Type 0} (xs : List X) (x y : X) (i : ℕ) → slice_get (xs ++ x ∷ []) i ≡ Some y → (P : X → Type 0)
+    → ((j : ℕ) (z : X) → slice_get xs j ≡ Some z → P z) → P x → P y
 slice_get-push [] x y zero at P others here = let same : x ≡ y = cc in subst P same here
 slice_get-push [] x y (suc i) at P others here = absurd (cc)
 slice_get-push (z ∷ xs) x y zero at P others here = let same : z ≡ y = cc in subst P same (others 0 z refl)
@@ -104,7 +107,8 @@ slice_get-last [] x = refl
 slice_get-last (y ∷ xs) x = slice_get-last xs x
 
 pub begun_next :
-    (form : TreeForm) (d : DescV) (numbers : List (Option ℕ)) (k : ℕ) (number : Option ℕ) (n : Node) (old new : List (List ℕ)) → slice_get numbers k ≡ Some number → slice_get d.nodes k ≡ Some n
+    (form : TreeForm) (d : DescV) (numbers : List (Option ℕ)) (k : ℕ) (number : Option ℕ) (n : Node)
+    (old new : List (List ℕ)) → slice_get numbers k ≡ Some number → slice_get d.nodes k ≡ Some n
     → HasLabel n → new ≡ old ++ opening_of form number n ∷ [] → AreBegun form d numbers k old → AreBegun form d numbers (k + 1) new
 begun_next form d numbers k number n old new given at label same are =
     let P : List (List ℕ) → Type 0 = λ l. AreBegun form d numbers (k + 1) l in
@@ -145,7 +149,8 @@ choice_or _ = inr (λ others e. cc)
 
 module _ (d : DescV) (is : IsDescription d) (numbers : List (Option ℕ)) (are : AreNumbers d (length d.nodes) numbers) where
   -- a part of a node that is no choice has no number
-  no_number : (c j i : ℕ) (n : Node) (found : Option ℕ) → slice_get d.nodes c ≡ Some n → slice_get (parts_of n) j ≡ Some i → ((parts : List ℕ) → ¬ (n ≡ Choice parts))
+  no_number : (c j i : ℕ) (n : Node) (found : Option ℕ) → slice_get d.nodes c ≡ Some n
+      → slice_get (parts_of n) j ≡ Some i → ((parts : List ℕ) → ¬ (n ≡ Choice parts))
       → slice_get numbers i ≡ Some found → found ≡ None
   no_number c j i n None at get other there = refl
   no_number c j i n (Some k) at get other there =
@@ -174,7 +179,8 @@ module _ (d : DescV) (is : IsDescription d) (numbers : List (Option ℕ)) (are :
       let low = part_from d.nodes k 0 (span_parts d.nodes a.there s.span) a.part in
       absurd (omega (arith, low))
 
-  pub are_openings : (openings : OpeningsV) → AreBegun openings.form d numbers (length d.nodes) openings.texts → AreOpenings openings.form d (opening_in openings)
+  pub are_openings : (openings : OpeningsV) → AreBegun openings.form d numbers (length d.nodes) openings.texts
+      → AreOpenings openings.form d (opening_in openings)
   are_openings openings begun =
       record {
         parts = λ c j i n m at get here.

@@ -1,5 +1,7 @@
 -- Templates that are made of those of parts, and what they write.
-use Rattle.std.proofs.Common.{◌≡◌, ℕ, zero, suc, ◌+◌, ◌*◌, ◌/◌, ◌%◌, ◌^◌, ◌<◌, ◌≤◌, Bool, true, false, List, [], ◌∷◌, ◌++◌, length, take, drop, set, get_or, ◌⊎◌, inl, inr, refl, sym, ap, subst, ◌∙◌, arith, append_assoc, append-nil, length-append, Option, Some, None}
+use Rattle.std.proofs.Common.{◌≡◌, ℕ, zero, suc, ◌+◌, ◌*◌, ◌/◌, ◌%◌, ◌^◌, ◌<◌, ◌≤◌, Bool, true, false, List, [], ◌∷◌}
+use Rattle.std.proofs.Common.{◌++◌, length, take, drop, set, get_or, ◌⊎◌, inl, inr, refl, sym, ap, subst, ◌∙◌, arith}
+use Rattle.std.proofs.Common.{append_assoc, append-nil, length-append, Option, Some, None}
 use Rattle.std.specs.Prelude.{slice_get, Result, Ok, Err, IfOk, IfSome, IsTrue}
 use Rattle.std.specs.Fmt.{decimal}
 use Rattle.std.proofs.lemmas.List.{append_cancel_left}
@@ -14,7 +16,9 @@ use Rattle.csn_desc.specs.declared.node.Node.TheVariants.{Lits, Null, Field, Seq
 use Rattle.csn_desc.specs.TreeV.{TreeV, bits, row, named, Trees}
 use Rattle.csn_desc.specs.Nodes.{DescV, parts_of}
 use Rattle.csn_desc.specs.Values.{Values}
-use Rattle.csn_desc.specs.Means.{NMeans, NodeMeans, PartsMean, means_at, means_lits, means_spare, means_pad, means_null, means_field, means_rest, means_seq, means_choice, means_times, means_many, means_cut, means_trunc, means_window, means_named, parts_end, parts_next}
+use Rattle.csn_desc.specs.Means.{NMeans, NodeMeans, PartsMean, means_at, means_lits, means_spare, means_pad}
+use Rattle.csn_desc.specs.Means.{means_null, means_field, means_rest, means_seq, means_choice, means_times}
+use Rattle.csn_desc.specs.Means.{means_many, means_cut, means_trunc, means_window, means_named, parts_end, parts_next}
 use Rattle.csn_certify.specs.declared.layouts.Layout.{Layout}
 use Rattle.csn_certify.specs.Layouts.{HasLayout}
 use Rattle.csn_treetext.specs.declared.version.Version.TheVariants.{Second}
@@ -24,7 +28,8 @@ use Rattle.csn_json.specs.declared.form.TreeForm.TheVariants.{Text}
 use Rattle.csn_movetext.specs.declared.template.Piece.{Piece}
 use Rattle.csn_movetext.specs.declared.template.Template.{Template}
 use Rattle.csn_movetext.specs.Forms.{gap_after, label_text, text_in, width_text}
-use Rattle.csn_movetext.specs.Openings.{OpeningsV, AreOpened, AreTemplates, HasOpenings, IsMark, IsTemplate, leaf_width, node_opening, number_at, opening_in, opening_of}
+use Rattle.csn_movetext.specs.Openings.{OpeningsV, AreOpened, AreTemplates, HasOpenings, IsMark, IsTemplate}
+use Rattle.csn_movetext.specs.Openings.{leaf_width, node_opening, number_at, opening_in, opening_of}
 use Rattle.csn_movetext.specs.Templates.{EndsIn, filled, is_later, piece_text, pieces_text, template_at}
 use Rattle.csn_movetext.specs.Making.{AreReady, EndsAt, HasPart, WritesLeaf, WritesNode, WritesParts}
 use Rattle.csn_movetext.specs.Writing.{bits_text}
@@ -32,7 +37,8 @@ use Rattle.csn_movetext.proofs.Written.{Told, wide_leaf, field_leaf, first_is, t
 
 -- ---- pieces
 
-pub pieces-push : (pieces : List Piece) (piece : Piece) (number : ℕ) → pieces_text (pieces ++ piece ∷ []) number ≡ pieces_text pieces number ++ piece_text piece number
+pub pieces-push : (pieces : List Piece) (piece : Piece) (number : ℕ)
+    → pieces_text (pieces ++ piece ∷ []) number ≡ pieces_text pieces number ++ piece_text piece number
 pieces-push [] piece number = append-nil (piece_text piece number)
 pieces-push (p ∷ pieces) piece number =
     ap (λ l. piece_text p number ++ l) (pieces-push pieces piece number)
@@ -44,7 +50,8 @@ take-next (y ∷ xs) zero x at = let same : y ≡ x = cc in ap (λ z. z ∷ []) 
 take-next (y ∷ xs) (suc k) x at = ap (λ l. y ∷ l) (take-next xs k x at)
 
 -- one piece more
-pub pieces-next : (pieces : List Piece) (k : ℕ) (piece : Piece) (number : ℕ) → slice_get pieces k ≡ Some piece → pieces_text (take (k + 1) pieces) number ≡ pieces_text (take k pieces) number ++ piece_text piece number
+pub pieces-next : (pieces : List Piece) (k : ℕ) (piece : Piece) (number : ℕ) → slice_get pieces k ≡ Some piece
+    → pieces_text (take (k + 1) pieces) number ≡ pieces_text (take k pieces) number ++ piece_text piece number
 pieces-next pieces k piece number at =
     let next : k + 1 ≡ suc k = omega arith in
     ap (λ j. pieces_text (take j pieces) number) next
@@ -57,7 +64,8 @@ read_piece {X} xs ys k x same low is = let P : List X → Type 0 = λ l. slice_g
 
 -- a piece of a part is added
 pub piece_added :
-    (old now mid new : Template) (pieces : List Piece) (k : ℕ) (piece : Piece) (text : List ℕ) (behind number : ℕ) → slice_get pieces k ≡ Some piece → text ≡ piece.text.items
+    (old now mid new : Template) (pieces : List Piece) (k : ℕ) (piece : Piece) (text : List ℕ) (behind number : ℕ)
+    → slice_get pieces k ≡ Some piece → text ≡ piece.text.items
     → filled mid number ≡ filled now number ++ text
     → filled new number ≡ filled mid number ++ decimal (number / 2 ^ (piece.behind + behind) % 2 ^ piece.width)
     → filled now number ≡ filled old number ++ pieces_text (take k pieces) (number / 2 ^ behind)
@@ -113,7 +121,8 @@ parted number b1 b2 ends =
     let low : List ℕ = low_bits (length b2) number in
     let both : high ++ low ≡ b1 ++ b2 = sym (low_bits-split (length b1) (length b2) number) ∙ ap (λ k. low_bits k number) (sym (length-append b1 b2)) ∙ ends in
     let size : length high ≡ length b1 = length-low_bits (length b1) (number / 2 ^ length b2) in
-    let front : high ≡ b1 = sym (take-append_seam high low) ∙ ap (λ k. take k (high ++ low)) size ∙ ap (λ l. take (length b1) l) both ∙ take-append_seam b1 b2 in
+    let front : high ≡ b1 = sym (take-append_seam high low) ∙ ap (λ k. take k (high ++ low)) size
+    ∙ ap (λ l. take (length b1) l) both ∙ take-append_seam b1 b2 in
     record { first = front; second = append_cancel_left b1 low b2 (ap (λ l. l ++ low) (sym front) ∙ both) }
 
 -- ---- a leaf
@@ -128,7 +137,8 @@ is_leaf d width (means_lits h) is = absurd (cc)
 is_leaf d {b = b} width (means_spare one spare) is = record { tree = refl; opens = refl; told = wide_leaf b 1 one }
 is_leaf d width (means_pad some spare) is = absurd (cc)
 is_leaf d width (means_null h) is = absurd (cc)
-is_leaf d {v = v} {b = b} width (means_field {unit = unit} {count = count} k counts wide are) is = record { tree = refl; opens = refl; told = field_leaf v unit count k b counts wide }
+is_leaf d {v = v} {b = b} width (means_field {unit = unit} {count = count} k counts wide are) is =
+    record { tree = refl; opens = refl; told = field_leaf v unit count k b counts wide }
 is_leaf d width (means_rest are) is = absurd (cc)
 is_leaf d width (means_seq g) is = absurd (cc)
 is_leaf d width (means_choice at g) is = absurd (cc)
@@ -157,20 +167,23 @@ leaf_written n told width old new is added d o v b t number means wide ends fron
 
 -- ---- nodes of no bits that are told, and a labelled part
 
-pub lits_written : (d : DescV) (run : List _) (width : ℕ) (templates : List (Option Template)) (old new : Template) → new ≡ old → WritesNode d (Lits run) width templates old new
+pub lits_written : (d : DescV) (run : List _) (width : ℕ) (templates : List (Option Template)) (old new : Template)
+    → new ≡ old → WritesNode d (Lits run) width templates old new
 lits_written d run width templates old new same o v b t number ready (means_lits h) wide ends front before = ap (λ x. filled x number) same ∙ before
 
 pub null_written : (d : DescV) (width : ℕ) (templates : List (Option Template)) (old new : Template) → new ≡ old → WritesNode d Null width templates old new
 null_written d width templates old new same o v b t number ready (means_null h) wide ends front before = ap (λ x. filled x number) same ∙ before
 
 -- the mark of a part of a node that is no choice
-no_mark : (d : DescV) (n : Node) (templates : List (Option Template)) (ready : AreReady d n templates) (j part : ℕ) → slice_get (parts_of n) j ≡ Some part → number_at n j ≡ None → IsMark d ready.openings part []
+no_mark : (d : DescV) (n : Node) (templates : List (Option Template)) (ready : AreReady d n templates) (j part : ℕ)
+    → slice_get (parts_of n) j ≡ Some part → number_at n j ≡ None → IsMark d ready.openings part []
 no_mark d n templates ready j part at none m here =
     ready.opened j part m at here ∙ ap (λ k. opening_of Text k m) none ∙ ap (λ f. node_opening f m) (sym ready.form)
 
 -- what the template of a part writes
 part_written :
-    (d : DescV) (n : Node) (templates : List (Option Template)) (ready : AreReady d n templates) (j part behind : ℕ) (old new : Template) → slice_get (parts_of n) j ≡ Some part → number_at n j ≡ None
+    (d : DescV) (n : Node) (templates : List (Option Template)) (ready : AreReady d n templates) (j part behind : ℕ)
+    (old new : Template) → slice_get (parts_of n) j ≡ Some part → number_at n j ≡ None
     → HasPart templates part behind old new
     → {o : ℕ} {v : Values} {b : List ℕ} {t : TreeV} (number : ℕ) → NMeans d part o v b t → EndsIn (number / 2 ^ behind) b
     → filled new number ≡ filled old number ++ text_of Second t
@@ -178,7 +191,8 @@ part_written d n templates ready j part behind old new at none has {o} {v} {b} {
     let is = ready.made part has.made has.there in
     has.added number ∙ ap (λ l. filled old number ++ l) (is.writes [] (no_mark d n templates ready j part at none) o v b t (number / 2 ^ behind) means ends)
 
-pub named_written : (d : DescV) (label : List ℕ) (part width : ℕ) (templates : List (Option Template)) (old new : Template) → HasPart templates part 0 old new → WritesNode d (Named label part) width templates old new
+pub named_written : (d : DescV) (label : List ℕ) (part width : ℕ) (templates : List (Option Template))
+    (old new : Template) → HasPart templates part 0 old new → WritesNode d (Named label part) width templates old new
 named_written d label part width templates old new has o v b t number ready (means_named {t = u} h) wide ends front before =
     part_written d (Named label part) templates ready 0 part 0 old new refl refl has number h (ends_none number b ends)
     ∙ ap (λ l. l ++ text_of Second u) before
@@ -204,7 +218,8 @@ PartsBehind d parts width templates k behind old new =
     → PartsMean d parts o v b ts → length b ≡ width → EndsIn number b
     → Behind d parts k behind number (filled new number) (filled old number ++ trees_text Text false ts)
 
-pub none_behind : (d : DescV) (parts : List ℕ) (width : ℕ) (templates : List (Option Template)) (template : Template) → PartsBehind d parts width templates 0 width template template
+pub none_behind : (d : DescV) (parts : List ℕ) (width : ℕ) (templates : List (Option Template)) (template : Template)
+    → PartsBehind d parts width templates 0 width template template
 none_behind d parts width templates template o v b ts number ready means wide ends =
     record { place = o; values = v; rest = b; trees = ts; means = means; ends = ends; wide = wide; whole = refl }
 
@@ -231,7 +246,8 @@ part_behind d parts width templates k behind part left old now mid new at ends_a
     all : List ℕ
     all = filled old number ++ trees_text Text false ts
 
-    by : {p : ℕ} {w : Values} {rest : List ℕ} {us : Trees} → length rest ≡ behind → EndsIn number rest → all ≡ filled now number ++ trees_text Text (is_later k) us
+    by : {p : ℕ} {w : Values} {rest : List ℕ} {us : Trees} → length rest ≡ behind → EndsIn number rest
+        → all ≡ filled now number ++ trees_text Text (is_later k) us
         → PartsMean d (part ∷ drop (k + 1) parts) p w rest us → Behind d parts (k + 1) left number (filled new number) all
     by {p} {w} {rest} count last is (parts_next {t = t} {ts = us} b1 b2 cut g later) =
         let sizes = length-append b1 b2 in
@@ -278,7 +294,9 @@ parts_written d parts width templates k behind old now new done closes before o 
     all : List ℕ
     all = filled old number ++ trees_text Text false ts
 
-    by : {p : ℕ} {w : Values} {rest : List ℕ} {us : Trees} → all ≡ filled now number ++ trees_text Text (is_later k) us → PartsMean d [] p w rest us → filled new number ≡ front ++ text_of Second (row ts)
+    by : {p : ℕ} {w : Values} {rest : List ℕ} {us : Trees}
+        → all ≡ filled now number ++ trees_text Text (is_later k) us → PartsMean d [] p w rest us
+        → filled new number ≡ front ++ text_of Second (row ts)
     by is (parts_end e) =
         closes number
         ∙ ap (λ l. l ++ 93 ∷ []) (sym (append-nil (filled now number)) ∙ sym is ∙ ap (λ l. l ++ trees_text Text false ts) opens)
@@ -286,16 +304,21 @@ parts_written d parts width templates k behind old now new done closes before o 
         ∙ append_assoc front (91 ∷ []) (trees_text Text false ts ++ 93 ∷ [])
         ∙ ap (λ l. front ++ 91 ∷ (l ++ 93 ∷ [])) (sym (first_is ts))
 
-pub seq_written : (d : DescV) (parts : List ℕ) (width : ℕ) (templates : List (Option Template)) (old new : Template) → WritesParts d parts width templates old new → WritesNode d (Seq parts) width templates old new
-seq_written d parts width templates old new writes o v b t number ready (means_seq {ts = ts} g) wide ends front before = writes o v b ts number ready g wide ends front before
+pub seq_written : (d : DescV) (parts : List ℕ) (width : ℕ) (templates : List (Option Template)) (old new : Template)
+    → WritesParts d parts width templates old new → WritesNode d (Seq parts) width templates old new
+seq_written d parts width templates old new writes o v b t number ready (means_seq {ts = ts} g)
+    wide ends front before = writes o v b ts number ready g wide ends front before
 
-pub leaf_node : (d : DescV) (n : Node) (width : ℕ) (templates : List (Option Template)) (old new : Template) → WritesLeaf n width old new → WritesNode d n width templates old new
+pub leaf_node : (d : DescV) (n : Node) (width : ℕ) (templates : List (Option Template)) (old new : Template)
+    → WritesLeaf n width old new → WritesNode d n width templates old new
 leaf_node d n width templates old new writes o v b t number ready means wide ends = writes d o v b t number means wide ends
 
 -- ---- the templates of nodes
 
 -- the strings of a node that is laid out have as many bits
-pub laid_wide : (d : DescV) (i : ℕ) (layout : Layout) → HasLayout d i layout → (o : ℕ) (v : Values) (b : List ℕ) (t : TreeV) → NMeans d i o v b t → length b ≡ layout.width
+pub laid_wide : (d : DescV) (i : ℕ) (layout : Layout)
+    → HasLayout d i layout → (o : ℕ) (v : Values) (b : List ℕ) (t : TreeV)
+    → NMeans d i o v b t → length b ≡ layout.width
 laid_wide d i layout has o v b t means =
     let s = has.laid.string o v b t means in
     omega (arith, has.within, s.count, ap length s.cut, length-append (low_bits layout.fixed layout.number) s.rest, length-low_bits layout.fixed layout.number)
@@ -318,7 +341,8 @@ node_template d openings i n layout templates old new form are at laid made begi
           made = made;
         }
 
-    all : (front : List ℕ) → IsMark d openings i front → (o : ℕ) (v : Values) (b : List ℕ) (t : TreeV) (number : ℕ) → NMeans d i o v b t → EndsIn number b → filled new number ≡ front ++ text_in Text t
+    all : (front : List ℕ) → IsMark d openings i front → (o : ℕ) (v : Values) (b : List ℕ) (t : TreeV) (number : ℕ)
+        → NMeans d i o v b t → EndsIn number b → filled new number ≡ front ++ text_in Text t
     all front marked o v b t number (means_at m there g) ends =
         let twice : Some m ≡ Some n = sym there ∙ at in
         let same : m ≡ n = cc in
@@ -336,14 +360,16 @@ if_had (Ok done) templates part behind made old new there added = λ yes. record
 if_had (Err e) templates part behind made old new there added = tt
 
 pub if_named :
-    {E : Type 0} (r : Result Bool E) (d : DescV) (n : Node) (label : List ℕ) (part width : ℕ) (templates : List (Option Template)) (old new : Template) → n ≡ Named label part
+    {E : Type 0} (r : Result Bool E) (d : DescV) (n : Node) (label : List ℕ) (part width : ℕ)
+    (templates : List (Option Template)) (old new : Template) → n ≡ Named label part
     → IfOk r (λ done. IsTrue done → HasPart templates part 0 old new) → IfOk r (λ done. IsTrue done → WritesNode d n width templates old new)
 if_named (Ok done) d n label part width templates old new is has = λ yes.
     subst (λ m. WritesNode d m width templates old new) (sym is) (named_written d label part width templates old new (has yes))
 if_named (Err e) d n label part width templates old new is has = tt
 
 pub if_seq :
-    {E : Type 0} (r : Result Bool E) (d : DescV) (n : Node) (parts : List ℕ) (width : ℕ) (templates : List (Option Template)) (old new : Template) → n ≡ Seq parts
+    {E : Type 0} (r : Result Bool E) (d : DescV) (n : Node) (parts : List ℕ) (width : ℕ)
+    (templates : List (Option Template)) (old new : Template) → n ≡ Seq parts
     → IfOk r (λ done. IsTrue done → WritesParts d parts width templates old new) → IfOk r (λ done. IsTrue done → WritesNode d n width templates old new)
 if_seq (Ok done) d n parts width templates old new is writes = λ yes.
     subst (λ m. WritesNode d m width templates old new) (sym is) (seq_written d parts width templates old new (writes yes))
@@ -357,7 +383,8 @@ if_leaf (Err e) d n width templates old new writes = tt
 
 -- ---- the list of templates
 
-pub set_at : (templates : List (Option Template)) (k i : ℕ) (made : Option Template) (t : Template) → template_at (set templates k made) i ≡ Some t → ((i ≡ k) × (made ≡ Some t)) ⊎ (template_at templates i ≡ Some t)
+pub set_at : (templates : List (Option Template)) (k i : ℕ) (made : Option Template) (t : Template)
+    → template_at (set templates k made) i ≡ Some t → ((i ≡ k) × (made ≡ Some t)) ⊎ (template_at templates i ≡ Some t)
 set_at [] k i made t e = inr e
 set_at (x ∷ templates) zero zero made t e = inl (refl, e)
 set_at (x ∷ templates) zero (suc i) made t e = inr e
@@ -367,7 +394,9 @@ set_at (x ∷ templates) (suc k) (suc i) made t e = elim (set_at templates k i m
   | inr there ↦ inr there
 ]
 
-pub templates_set : (d : DescV) (openings : OpeningsV) (templates : List (Option Template)) (k : ℕ) (made : Option Template) → AreTemplates d openings templates → ((t : Template) → made ≡ Some t → IsTemplate d openings k t) → AreTemplates d openings (set templates k made)
+pub templates_set : (d : DescV) (openings : OpeningsV) (templates : List (Option Template)) (k : ℕ)
+    (made : Option Template) → AreTemplates d openings templates
+    → ((t : Template) → made ≡ Some t → IsTemplate d openings k t) → AreTemplates d openings (set templates k made)
 templates_set d openings templates k made are is i t e = elim (set_at templates k i made t e) [
   | inl here ↦ subst (λ j. IsTemplate d openings j t) (sym here.0) (is t here.1)
   | inr there ↦ are i t there
@@ -380,7 +409,8 @@ none_pushed (x ∷ templates) none zero = none 0
 none_pushed (x ∷ templates) none (suc i) = none_pushed templates (λ j. none (suc j)) i
 
 -- a template that is kept is the one that was made
-pub kept_template : (kept made : Option Template) (P : Template → Type 0) → IfSome kept (λ t. made ≡ Some t) → IfSome made P → (t : Template) → kept ≡ Some t → P t
+pub kept_template : (kept made : Option Template) (P : Template → Type 0) → IfSome kept (λ t. made ≡ Some t)
+    → IfSome made P → (t : Template) → kept ≡ Some t → P t
 kept_template None made P same holds t e = absurd (cc)
 kept_template (Some x) made P same holds t e =
     let one : x ≡ t = cc in

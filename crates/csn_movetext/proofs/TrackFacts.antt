@@ -133,7 +133,8 @@ last_pending openings old new node front bit is more all =
           shown_of openings new false next (subst (λ x. Shows openings.form new x) there (all s.before s.shows));
     }
 
-told_gathered : (openings : OpeningsV) (old new : KeptV) (node : Node) (front : List ℕ) (bit : ℕ) (bits : List ℕ) → is_literal node ≡ false → Extends old.text new.text
+told_gathered : (openings : OpeningsV) (old new : KeptV) (node : Node) (front : List ℕ) (bit : ℕ) (bits : List ℕ)
+    → is_literal node ≡ false → Extends old.text new.text
     → ((w : WritingV) → Shows openings.form old w → Shows openings.form new (gathering w (front ++ bit ∷ bits)))
     → BitsTold Writes node (bit ∷ bits) (with_pending openings old front) (view openings new false)
 told_gathered openings old new node front bit [] is more all =
@@ -145,7 +146,8 @@ told_gathered openings old new node front bit (next ∷ bits) is more all =
       told_gathered openings old new node (front ++ bit ∷ []) next bits is more (subst P (sym (append_assoc front (bit ∷ []) (next ∷ bits))) all),
     )
 
-told_by_kind : (openings : OpeningsV) (old new : KeptV) (node : Node) (bit : ℕ) (bits : List ℕ) (literal : Bool) → is_literal node ≡ literal → Extends old.text new.text
+told_by_kind : (openings : OpeningsV) (old new : KeptV) (node : Node) (bit : ℕ) (bits : List ℕ) (literal : Bool)
+    → is_literal node ≡ literal → Extends old.text new.text
     → TookBits openings.form literal (bit ∷ bits) old new → BitsTold Writes node (bit ∷ bits) (view openings old false) (view openings new false)
 told_by_kind openings old new node bit bits true is more same =
     let P : KeptV → Type 0 = λ k. BitsTold Writes node (bit ∷ bits) (view openings old false) (view openings k false) in
@@ -153,7 +155,8 @@ told_by_kind openings old new node bit bits true is more same =
 told_by_kind openings old new node bit bits false is more all = told_gathered openings old new node [] bit bits is more all
 
 -- bits that are taken, which memory may be refused to
-pub told_taken : {E : Type 0} (r : Result (Unit {0}) E) (openings : OpeningsV) (old new : KeptV) (node : Node) (count number : ℕ) → 0 < count → Extends old.text new.text
+pub told_taken : {E : Type 0} (r : Result (Unit {0}) E) (openings : OpeningsV) (old new : KeptV) (node : Node)
+    (count number : ℕ) → 0 < count → Extends old.text new.text
     → OnOk r (TookAll openings.form node (low_bits count number) old new)
     → BitsTold Writes node (low_bits count number) (view openings old false) (view openings new (is_err r))
 told_taken r openings old new node zero number some more took = absurd (omega (arith, some))
@@ -162,7 +165,8 @@ told_taken (Ok x) openings old new node (suc count) number some more took =
 told_taken (Err e) openings old new node (suc count) number some more took = told_off openings old new node _ (low_bits count number) more
 
 -- one bit that is taken
-pub moves_bit : (openings : OpeningsV) (node : Node) (bit : ℕ) (old new : KeptV) → TookAll openings.form node (bit ∷ []) old new → Moves openings (Bit bit) node old new
+pub moves_bit : (openings : OpeningsV) (node : Node) (bit : ℕ) (old new : KeptV)
+    → TookAll openings.form node (bit ∷ []) old new → Moves openings (Bit bit) node old new
 moves_bit openings node bit old new took = by_kind (is_literal node) refl took
   where
     by_kind : (literal : Bool) → is_literal node ≡ literal → TookBits openings.form literal (bit ∷ []) old new → Moves openings (Bit bit) node old new

@@ -10,7 +10,11 @@ use Rattle.csn_desc.specs.Label.{IsLabel}
 use Rattle.csn_desc.specs.Nodes.{DescV}
 use Rattle.csn_desc.specs.Values.{Values}
 use Rattle.csn_desc.specs.Laws.{MeaningsAreBits}
-use Rattle.csn_desc.specs.Means.{NMeans, NodeMeans, PartsMean, TimesMean, ManyMean, LeadMean, means_at, means_lits, means_spare, means_pad, means_null, means_field, means_rest, means_seq, means_choice, means_times, means_many, means_cut, means_trunc, means_window, means_named, parts_end, parts_next, times_end, times_next, many_end, many_next, lead_last, lead_next}
+use Rattle.csn_desc.specs.Means.{NMeans, NodeMeans, PartsMean, TimesMean, ManyMean, LeadMean, means_at, means_lits}
+use Rattle.csn_desc.specs.Means.{means_spare, means_pad, means_null, means_field, means_rest, means_seq, means_choice}
+use Rattle.csn_desc.specs.Means.{means_times, means_many, means_cut, means_trunc, means_window, means_named}
+use Rattle.csn_desc.specs.Means.{parts_end, parts_next, times_end, times_next, many_end, many_next, lead_last}
+use Rattle.csn_desc.specs.Means.{lead_next}
 
 -- of two pieces each is no longer than both
 front_few : {w : List ℕ} (b1 b2 : List ℕ) → w ≡ b1 ++ b2 → length w ≤ most_bits → length b1 ≤ most_bits
@@ -19,7 +23,8 @@ front_few b1 b2 cut few = omega (arith, few, ap length cut, length-append b1 b2)
 back_few : {w : List ℕ} (b1 b2 : List ℕ) → w ≡ b1 ++ b2 → length w ≤ most_bits → length b2 ≤ most_bits
 back_few b1 b2 cut few = omega (arith, few, ap length cut, length-append b1 b2)
 
-module _ (d : DescV) (labels : (i part : ℕ) (label : List ℕ) → slice_get d.nodes i ≡ Some (Named label part) → IsLabel label) (are_bits : MeaningsAreBits) where
+module _ (d : DescV) (labels : (i part : ℕ) (label : List ℕ) → slice_get d.nodes i ≡ Some (Named label part)
+    → IsLabel label) (are_bits : MeaningsAreBits) where
   mutual
     pub node_parts : {i o : ℕ} {v : Values} {b : List ℕ} {t : TreeV} → NMeans d i o v b t → length b ≤ most_bits → HasTreeParts t
     node_parts {i = i} (means_at n at h) few = kind_parts i at h few

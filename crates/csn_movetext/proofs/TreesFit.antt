@@ -7,7 +7,11 @@ use Rattle.csn_desc.specs.TreeV.{TreeV, empty, bits, row, alt, named, Trees, non
 use Rattle.csn_desc.specs.Nodes.{DescV, parts_of}
 use Rattle.csn_desc.specs.Values.{Values}
 use Rattle.csn_desc.specs.Formed.{Formed, formed, PartsFormed, formed_end, formed_next, shows_earlier, IsDescription}
-use Rattle.csn_desc.specs.Means.{NMeans, NodeMeans, PartsMean, TimesMean, ManyMean, LeadMean, means_at, means_lits, means_spare, means_pad, means_null, means_field, means_rest, means_seq, means_choice, means_times, means_many, means_cut, means_trunc, means_window, means_named, parts_end, parts_next, times_end, times_next, many_end, many_next, lead_last, lead_next}
+use Rattle.csn_desc.specs.Means.{NMeans, NodeMeans, PartsMean, TimesMean, ManyMean, LeadMean, means_at, means_lits}
+use Rattle.csn_desc.specs.Means.{means_spare, means_pad, means_null, means_field, means_rest, means_seq, means_choice}
+use Rattle.csn_desc.specs.Means.{means_times, means_many, means_cut, means_trunc, means_window, means_named}
+use Rattle.csn_desc.specs.Means.{parts_end, parts_next, times_end, times_next, many_end, many_next, lead_last}
+use Rattle.csn_desc.specs.Means.{lead_next}
 use Rattle.csn_desc.specs.Formed.{PartsSpan, span_end, span_next}
 use Rattle.csn_desc.proofs.Numbering.{span_grows, span_inside, span_parts, part_before}
 use Rattle.csn_treetext.specs.Fits.{FitsInside, AllFitInside, Fits}

@@ -1,5 +1,6 @@
 -- A text that is written by all moves of a node at once.
-use Rattle.std.proofs.Common.{◌≡◌, ℕ, arith, if◌then◌else◌, Bool, true, false, List, [], ◌∷◌, ◌++◌, length, refl, sym, ap, subst, ◌∙◌, append_assoc, append-nil, Option, Some, None, unwrap_or}
+use Rattle.std.proofs.Common.{◌≡◌, ℕ, arith, if◌then◌else◌, Bool, true, false, List, [], ◌∷◌, ◌++◌, length, refl, sym}
+use Rattle.std.proofs.Common.{ap, subst, ◌∙◌, append_assoc, append-nil, Option, Some, None, unwrap_or}
 use Rattle.std.specs.Prelude.{slice_get, codes, Result, Ok, Err, OnOk, is_err}
 use Rattle.std.specs.Option.{option_and_then}
 use Rattle.csn_bits.specs.Numbers.{number_of, low_bits}
@@ -23,7 +24,8 @@ use Rattle.csn_movetext.specs.Forms.{gap_after, text_in}
 use Rattle.csn_movetext.specs.Templates.{filled, template_at}
 use Rattle.csn_movetext.specs.Openings.{OpeningsV, HasOpenings, opening_in, leaf_width}
 use Rattle.csn_movetext.specs.Laws.{MovesWriteTheirTree}
-use Rattle.csn_movetext.specs.Writing.{WritingV, ready, gathering, when_none, entered, took, shut, passed, part_left, has_width, bits_text, closed, left_node, behind, written_by}
+use Rattle.csn_movetext.specs.Writing.{WritingV, ready, gathering, when_none, entered, took, shut, passed, part_left}
+use Rattle.csn_movetext.specs.Writing.{has_width, bits_text, closed, left_node, behind, written_by}
 use Rattle.csn_movetext.specs.Kept.{KeptV, Shows, Extends, IsFront, begun}
 use Rattle.csn_movetext.specs.Track.{TrackV, Shown, Writes}
 use Rattle.csn_movetext.proofs.Octets.{extends_none}
@@ -80,7 +82,8 @@ took_extends : (bit : ℕ) (n : Node) (w next : WritingV) → took bit n w ≡ S
 took_extends bit (Lits run) w next e = let same : w ≡ next = cc in same_text (sym same)
 took_extends bit _ w next e = let same : gathering w (bit ∷ []) ≡ next = cc in ([], ap (λ (x : WritingV). x.text) (sym same) ∙ sym (append-nil w.text))
 
-behind_extends : (form : TreeForm) (openings : ℕ → List ℕ) (move : Move) (n : Node) (w next : WritingV) → behind form openings move n w ≡ Some next → Extends w.text next.text
+behind_extends : (form : TreeForm) (openings : ℕ → List ℕ) (move : Move) (n : Node) (w next : WritingV)
+    → behind form openings move n w ≡ Some next → Extends w.text next.text
 behind_extends form openings (Enter i) n w next e =
     more_text w.text (gap_after form w.left ++ openings i) (none_left w.gathered (ready (w.text ++ (gap_after form w.left ++ openings i)) false) next e) refl
 behind_extends form openings (Bit bit) n w next e = took_extends bit n w next e
@@ -179,7 +182,8 @@ module _ (openings : OpeningsV) (bits : ℕ) where
   abbrev Led : DescV → List (Move × Node) → WritingV → WritingV → Type 0
   Led d pairs w u = written_by openings.form (opening_in openings) w pairs ≡ Some u → gone d Writes (state openings bits) led leads w pairs ≡ u
 
-  led_first : (d : DescV) (first : Move × Node) (pairs : List (Move × Node)) (w u : WritingV) (o : Option WritingV) → behind openings.form (opening_in openings) first.0 first.1 w ≡ o
+  led_first : (d : DescV) (first : Move × Node) (pairs : List (Move × Node)) (w u : WritingV) (o : Option WritingV)
+      → behind openings.form (opening_in openings) first.0 first.1 w ≡ o
       → ((next : WritingV) → Led d pairs next u) → Led d (first ∷ pairs) w u
   led_first d first pairs w u None is later e =
       let clash : None ≡ Some u = sym (ap (λ o. option_and_then (λ x. written_by openings.form (opening_in openings) x pairs) o) is) ∙ e in absurd (cc)
@@ -189,7 +193,8 @@ module _ (openings : OpeningsV) (bits : ℕ) where
 
   led_by : (d : DescV) (pairs : List (Move × Node)) (w u : WritingV) → Led d pairs w u
   led_by d [] w u e = cc
-  led_by d (first ∷ pairs) w u e = led_first d first pairs w u (behind openings.form (opening_in openings) first.0 first.1 w) refl (λ next. led_by d pairs next u) e
+  led_by d (first ∷ pairs) w u e = led_first d first pairs w u (behind openings.form (opening_in openings)
+      first.0 first.1 w) refl (λ next. led_by d pairs next u) e
 
   -- all moves of a tree, where they write a text
   pub told_whole :
@@ -217,10 +222,13 @@ module _ (openings : OpeningsV) (old new : KeptV) (more : Extends old.text new.t
   stays_refused d [] = refl
   stays_refused d (first ∷ pairs) = stays_refused d pairs
 
-  begins : (d : DescV) {i o : ℕ} {t : TreeV} {moves : List Move} → Walk d i o t moves → gone d Writes half (λ begun move n. true) refusing false (with_nodes d [] (moves ++ [])) ≡ true
+  begins : (d : DescV) {i o : ℕ} {t : TreeV} {moves : List Move}
+      → Walk d i o t moves → gone d Writes half (λ begun move n. true) refusing false
+      (with_nodes d [] (moves ++ [])) ≡ true
   begins d {i = i} {moves = moves} (walk_at n within at h e) =
       ap (λ l. gone d Writes half (λ begun move n. true) refusing false (with_nodes d [] (l ++ []))) e
-      ∙ ap (λ o. gone d Writes half (λ begun move n. true) refusing false (with_node (Enter i) o (with_nodes d (inside o []) ((within ++ Leave ∷ []) ++ [])))) at
+      ∙ ap (λ o. gone d Writes half (λ begun move n. true) refusing false
+      (with_node (Enter i) o (with_nodes d (inside o []) ((within ++ Leave ∷ []) ++ [])))) at
       ∙ stays_refused d (with_nodes d (n ∷ []) ((within ++ Leave ∷ []) ++ []))
 
   pub told_refused :
@@ -234,9 +242,17 @@ module _ (openings : OpeningsV) (old new : KeptV) (more : Extends old.text new.t
 -- ---- a template is written
 
 pub told_at_once :
-    {E : Type 0} (r : Result (Unit {0}) E) (openings : OpeningsV) (d : DescV) (old new : KeptV) (i width number : ℕ) (template : Template) → MovesWriteTheirTree → HasOpenings d openings
+    {E : Type 0} (r : Result (Unit {0}) E) (openings : OpeningsV) (d : DescV) (old new : KeptV) (i width number : ℕ)
+    (template : Template) → MovesWriteTheirTree → HasOpenings d openings
     → template_at openings.templates i ≡ Some template → old.held ≡ 0 → old.long ≡ false → Extends old.text new.text
-    → OnOk r (new ≡ record { text = old.text ++ (gap_after Text old.left ++ filled template number); left = true; long = old.long; held = old.held; bits = old.bits })
+    → OnOk r (new ≡ record {
+      text = old.text ++ (gap_after Text old.left ++ filled template number);
+      left =
+          true;
+      long = old.long;
+      held = old.held;
+      bits = old.bits;
+    })
     → WholeTold d Writes i (low_bits width number) (view openings old false) (view openings new (is_err r))
 told_at_once (Err e) openings d old new i width number template law has there held long more wrote o v t moves around means walk =
     told_refused openings old new more d around walk
@@ -252,10 +268,38 @@ told_at_once (Ok done) openings d old new i width number template law has there 
     ap (λ l. view openings (record { text = old.text; left = old.left; long = l; held = 0; bits = old.bits }) false) (sym long)
     ∙ ap (λ h. view openings (record { text = old.text; left = old.left; long = old.long; held = h; bits = old.bits }) false) (sym held) in
     let last : state openings old.bits behind_it ≡ view openings new false =
-    ap (λ f. view openings (record { text = old.text ++ (gap_after f old.left ++ (is.mark ++ text_in f t)); left = true; long = false; held = 0; bits = old.bits }) false) is.form
-    ∙ ap (λ l. view openings (record { text = old.text ++ (gap_after Text old.left ++ l); left = true; long = false; held = 0; bits = old.bits }) false) (sym text)
-    ∙ ap (λ l. view openings (record { text = old.text ++ (gap_after Text old.left ++ filled template number); left = true; long = l; held = 0; bits = old.bits }) false) (sym long)
-    ∙ ap (λ h. view openings (record { text = old.text ++ (gap_after Text old.left ++ filled template number); left = true; long = old.long; held = h; bits = old.bits }) false) (sym held)
+    ap (λ f. view openings (record {
+      text = old.text ++ (gap_after f old.left ++ (is.mark ++ text_in f t));
+      left =
+          true;
+      long = false;
+      held = 0;
+      bits = old.bits;
+    }) false) is.form
+    ∙ ap (λ l. view openings (record {
+      text = old.text ++ (gap_after Text old.left ++ l);
+      left = true;
+      long =
+          false;
+      held = 0;
+      bits = old.bits;
+    }) false) (sym text)
+    ∙ ap (λ l. view openings (record {
+      text = old.text ++ (gap_after Text old.left ++ filled template number);
+      left =
+          true;
+      long = l;
+      held = 0;
+      bits = old.bits;
+    }) false) (sym long)
+    ∙ ap (λ h. view openings (record {
+      text = old.text ++ (gap_after Text old.left ++ filled template number);
+      left =
+          true;
+      long = old.long;
+      held = h;
+      bits = old.bits;
+    }) false) (sym held)
     ∙ ap (λ k. view openings k false) (sym wrote) in
     let A : TrackV → Type 0 = λ x. Tells d Writes around moves around x (state openings old.bits behind_it) in
     let B : TrackV → Type 0 = λ x. Tells d Writes around moves around (view openings old false) x in

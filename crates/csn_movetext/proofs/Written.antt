@@ -1,5 +1,6 @@
 -- The moves of a tree write it, in either form.
-use Rattle.std.proofs.Common.{◌≡◌, ℕ, suc, ◌*◌, if◌then◌else◌, Bool, true, false, List, [], ◌∷◌, ◌++◌, length, refl, sym, ◌∙◌, ap, subst, append_assoc, append-nil, Option, Some, None}
+use Rattle.std.proofs.Common.{◌≡◌, ℕ, suc, ◌*◌, if◌then◌else◌, Bool, true, false, List, [], ◌∷◌, ◌++◌, length, refl}
+use Rattle.std.proofs.Common.{sym, ◌∙◌, ap, subst, append_assoc, append-nil, Option, Some, None}
 use Rattle.std.specs.Prelude.{codes, slice_get, map}
 use Rattle.std.specs.Fmt.{decimal}
 use Rattle.std.specs.Option.{option_and_then}
@@ -21,9 +22,15 @@ use Rattle.csn_bits.specs.Line.{written}
 use Rattle.csn_bits.specs.Numbers.{number_of}
 use Rattle.csn_bits.specs.Octets.{IsBits}
 use Rattle.csn_desc.specs.Values.{Values, count_of}
-use Rattle.csn_desc.specs.Means.{NMeans, NodeMeans, PartsMean, TimesMean, ManyMean, LeadMean, means_at, means_lits, means_spare, means_pad, means_null, means_field, means_rest, means_seq, means_choice, means_times, means_many, means_cut, means_trunc, means_window, means_named, times_end, times_next, many_end, many_next, lead_last}
+use Rattle.csn_desc.specs.Means.{NMeans, NodeMeans, PartsMean, TimesMean, ManyMean, LeadMean, means_at, means_lits}
+use Rattle.csn_desc.specs.Means.{means_spare, means_pad, means_null, means_field, means_rest, means_seq, means_choice}
+use Rattle.csn_desc.specs.Means.{means_times, means_many, means_cut, means_trunc, means_window, means_named}
+use Rattle.csn_desc.specs.Means.{times_end, times_next, many_end, many_next, lead_last}
 use Rattle.csn_desc.specs.Means as mean
-use Rattle.csn_desc.specs.Walks.{Walk, NodeWalk, PartsWalk, RepeatsWalk, LeadWalk, walk_at, walk_lits, walk_spare, walk_pad, walk_null, walk_field, walk_rest, walk_seq, walk_choice, walk_times, walk_many, walk_trunc, walk_window, walk_named, parts_end, parts_next, repeats_end, repeats_next, lead_end, lead_next}
+use Rattle.csn_desc.specs.Walks.{Walk, NodeWalk, PartsWalk, RepeatsWalk, LeadWalk, walk_at, walk_lits, walk_spare}
+use Rattle.csn_desc.specs.Walks.{walk_pad, walk_null, walk_field, walk_rest, walk_seq, walk_choice, walk_times}
+use Rattle.csn_desc.specs.Walks.{walk_many, walk_trunc, walk_window, walk_named, parts_end, parts_next, repeats_end}
+use Rattle.csn_desc.specs.Walks.{repeats_next, lead_end, lead_next}
 use Rattle.csn_desc.proofs.WalkFacts.{at_node}
 use Rattle.csn_treetext.specs.declared.version.Version.TheVariants.{Second}
 use Rattle.csn_treetext.specs.Text.{is_short, short_text, other_text, leaf_text, text_of, row_text, rest_text}
@@ -40,10 +47,12 @@ use Rattle.csn_movetext.specs.Writing.{WritingV, ready, gathering, has_width, bi
 -- ---- leaves
 
 -- the two relations name one part
-same_part : {d : DescV} {i k at : ℕ} {t : TreeV} {moves : List Move} (parts : List ℕ) (j : ℕ) → slice_get parts j ≡ Some k → slice_get parts j ≡ Some i → Walk d i at t moves → Walk d k at t moves
+same_part : {d : DescV} {i k at : ℕ} {t : TreeV} {moves : List Move} (parts : List ℕ) (j : ℕ)
+    → slice_get parts j ≡ Some k → slice_get parts j ≡ Some i → Walk d i at t moves → Walk d k at t moves
 same_part {d} {i = i} {k = k} {at = at} {t = t} {moves = moves} parts j left right h = let same : i ≡ k = cc in subst (λ p. Walk d p at t moves) same h
 
-told_text : (b : List ℕ) (short : Bool) → width_text (if short then Some (length b) else None) ++ bits_text (if short then Some (length b) else None) b ≡ (if short then short_text b else leaf_text Second b)
+told_text : (b : List ℕ) (short : Bool) → width_text (if short then Some (length b) else None) ++ bits_text
+    (if short then Some (length b) else None) b ≡ (if short then short_text b else leaf_text Second b)
 told_text b true = append_assoc (decimal (length b)) (39 ∷ []) (decimal (number_of b))
 told_text b false = refl
 
@@ -65,7 +74,8 @@ wide_leaf b width e =
     let P : ℕ → Type 0 = λ w. Told (told_width w) b in
     subst P e (record { wide = width_kept b (is_short b); text = told_text b (is_short b) ∙ same_either (short_text b) (is_short b) (other_text Second b) })
 
-pub field_leaf : (v : Values) (unit : ℕ) (count : Count) (n : ℕ) (b : List ℕ) → count_of v count ≡ Some n → length b ≡ unit * n → Told (leaf_width (Field unit count)) b
+pub field_leaf : (v : Values) (unit : ℕ) (count : Count) (n : ℕ) (b : List ℕ)
+    → count_of v count ≡ Some n → length b ≡ unit * n → Told (leaf_width (Field unit count)) b
 field_leaf v unit (Fixed m) n b count wide = let same : n ≡ m = cc in wide_leaf b (unit * m) (wide ∙ ap (λ k. unit * k) same)
 field_leaf v unit (Counted m field c) n b count wide = record { wide = refl; text = refl }
 
@@ -140,7 +150,8 @@ alternative_is joined Json j t =
     joined.alternative j t
     ∙ ap (λ l. codes "{\"alt\":" ++ l) (sym (append_assoc (decimal j) (codes ",\"tree\":") (json_text t ++ codes "}")))
 
-labelled_is : TextsAreJoined → (form : TreeForm) (label : List ℕ) (t : TreeV) → IsLabel label → text_in form (named label t) ≡ label_text form label ++ (text_in form t ++ part_end form)
+labelled_is : TextsAreJoined → (form : TreeForm) (label : List ℕ) (t : TreeV)
+    → IsLabel label → text_in form (named label t) ≡ label_text form label ++ (text_in form t ++ part_end form)
 labelled_is joined Text label t is =
     ap (λ l. 60 ∷ (label ++ 62 ∷ 61 ∷ l)) (sym (append-nil (text_of Second t)))
     ∙ ap (λ l. 60 ∷ l) (sym (append_assoc label (62 ∷ 61 ∷ []) (text_of Second t ++ [])))
@@ -176,7 +187,8 @@ module _ (joined : TextsAreJoined) (form : TreeForm) (d : DescV) (openings : ℕ
       ∙ ap (λ l. run (record { text = text; left = left; gathered = l }) (n ∷ around) rest) (append_assoc g (x ∷ []) b)
 
   -- those of a literal are not
-  passed_bits : (word : List Symbol) (b text : List ℕ) (left : Bool) (around : List Node) (rest : List Move) → from text left (Lits word ∷ around) (map Bit b ++ rest) ≡ from text left (Lits word ∷ around) rest
+  passed_bits : (word : List Symbol) (b text : List ℕ) (left : Bool) (around : List Node) (rest : List Move)
+      → from text left (Lits word ∷ around) (map Bit b ++ rest) ≡ from text left (Lits word ∷ around) rest
   passed_bits word [] text left around rest = refl
   passed_bits word (x ∷ b) text left around rest = passed_bits word b text left around rest
 
@@ -222,7 +234,8 @@ module _ (joined : TextsAreJoined) (form : TreeForm) (d : DescV) (openings : ℕ
 
   row_writes :
       (n : Node) → node_opening form n ≡ 91 ∷ []
-      → ((text : List ℕ) (left : Bool) (around : List Node) (rest : List Move) → from text left (n ∷ around) (Leave ∷ rest) ≡ from (text ++ 93 ∷ []) true around rest)
+      → ((text : List ℕ) (left : Bool) (around : List Node) (rest : List Move) → from text left (n ∷ around)
+      (Leave ∷ rest) ≡ from (text ++ 93 ∷ []) true around rest)
       → (ts : Trees) (moves : List Move) → Writes moves (λ left. trees_text form left ts) (λ left. left_after left ts)
       → NodeWrites n moves (text_in form (row ts))
   row_writes n opens closes ts moves h rest around text =
@@ -251,7 +264,9 @@ module _ (joined : TextsAreJoined) (form : TreeForm) (d : DescV) (openings : ℕ
       ∙ ap (λ l. from l true around rest) (three text (gap_after form left) (text_in form t) (trees_text form true ts))
 
   -- what is left behind a part that has a number or a label
-  part_writes : (text : List ℕ) (around : List Node) (rest : List Move) → option_and_then (λ w. run w around rest) (part_left form (ready text true)) ≡ from (text ++ part_end form) true around rest
+  part_writes : (text : List ℕ) (around : List Node) (rest : List Move)
+      → option_and_then (λ w. run w around rest) (part_left form (ready text true)) ≡ from (text ++ part_end form)
+      true around rest
   part_writes text around rest = ap (λ o. option_and_then (λ w. run w around rest) o) (part_is form text true)
 
   module _ (are_bits : MeaningsAreBits) (are : AreOpenings form d openings) where
@@ -275,7 +290,9 @@ module _ (joined : TextsAreJoined) (form : TreeForm) (d : DescV) (openings : ℕ
           ap (λ l. from text left around (l ++ rest)) e
           ∙ ap (λ l. from text left around (Enter i ∷ l)) (append_assoc within (Leave ∷ []) rest)
           ∙ enter_writes i m mark at opens (within ++ (Leave ∷ rest)) around text left
-          ∙ node_writes g (at_node d one_node h) same (are_bits d i o v b t (means_at m at g)) (λ j p get q is. are.parts i j p m q at get is) (λ part label is. are.labels i part label (at ∙ ap Some is)) rest around (text ++ (gap_after form left ++ mark))
+          ∙ node_writes g (at_node d one_node h) same (are_bits d i o v b t (means_at m at g))
+          (λ j p get q is. are.parts i j p m q at get is) (λ part label is. are.labels i part label
+          (at ∙ ap Some is)) rest around (text ++ (gap_after form left ++ mark))
           ∙ ap (λ l. from l true around rest) (three text (gap_after form left) mark (text_in form u))
 
       node_writes :
@@ -291,16 +308,21 @@ module _ (joined : TextsAreJoined) (form : TreeForm) (d : DescV) (openings : ℕ
           ∙ ap (λ l. from (text ++ l) true around rest) (sym (nothing_is form))
       node_writes {b = b} {moves = moves} (means_spare one spare) (walk_spare {s = s} {b = c} e) same zeros_and_ones known labelled rest around text =
           let bits_same : b ≡ c = cc in
-          leaf_writes (Spare s) (λ bit w. refl) refl (λ w. refl) c (subst IsBits bits_same zeros_and_ones) (wide_leaf c 1 (ap length (sym bits_same) ∙ one)) moves e rest around text
+          leaf_writes (Spare s) (λ bit w. refl) refl (λ w. refl) c (subst IsBits bits_same zeros_and_ones)
+          (wide_leaf c 1 (ap length (sym bits_same) ∙ one)) moves e rest around text
       node_writes {b = b} {moves = moves} (means_pad some spare) (walk_pad {b = c} e) same zeros_and_ones known labelled rest around text =
           let bits_same : b ≡ c = cc in
-          leaf_writes Pad (λ bit w. refl) refl (λ w. refl) c (subst IsBits bits_same zeros_and_ones) (record { wide = refl; text = refl }) moves e rest around text
-      node_writes {v = v} {b = b} {moves = moves} (means_field {unit = unit} {count = count} k is wide are) (walk_field {b = c} e) same zeros_and_ones known labelled rest around text =
+          leaf_writes Pad (λ bit w. refl) refl (λ w. refl) c (subst IsBits bits_same zeros_and_ones)
+          (record { wide = refl; text = refl }) moves e rest around text
+      node_writes {v = v} {b = b} {moves = moves} (means_field {unit = unit} {count = count} k is wide are)
+          (walk_field {b = c} e) same zeros_and_ones known labelled rest around text =
           let bits_same : b ≡ c = cc in
-          leaf_writes (Field unit count) (λ bit w. refl) refl (λ w. refl) c (subst IsBits bits_same zeros_and_ones) (field_leaf v unit count k c is (ap length (sym bits_same) ∙ wide)) moves e rest around text
+          leaf_writes (Field unit count) (λ bit w. refl) refl (λ w. refl) c (subst IsBits bits_same zeros_and_ones)
+          (field_leaf v unit count k c is (ap length (sym bits_same) ∙ wide)) moves e rest around text
       node_writes {b = b} {moves = moves} (means_rest are) (walk_rest {b = c} e) same zeros_and_ones known labelled rest around text =
           let bits_same : b ≡ c = cc in
-          leaf_writes node.Rest (λ bit w. refl) refl (λ w. refl) c (subst IsBits bits_same zeros_and_ones) (record { wide = refl; text = refl }) moves e rest around text
+          leaf_writes node.Rest (λ bit w. refl) refl (λ w. refl) c (subst IsBits bits_same zeros_and_ones)
+          (record { wide = refl; text = refl }) moves e rest around text
       node_writes {moves = moves} (means_seq {parts = parts} g) (walk_seq {ts = us} h) same zeros_and_ones known labelled rest around text =
           row_writes (Seq parts) refl (λ text left around rest. refl) us moves (parts_write g h (cc) known) rest around text
       node_writes {moves = moves} (means_times {count = count} {i = i} k is g) (walk_times {ts = us} h) same zeros_and_ones known labelled rest around text =
@@ -312,17 +334,22 @@ module _ (joined : TextsAreJoined) (form : TreeForm) (d : DescV) (openings : ℕ
       node_writes (means_cut g) (walk_trunc (lead_next first others cut h later)) same zeros_and_ones known labelled rest around text = cc
       node_writes {moves = moves} (means_trunc {parts = parts} g) (walk_trunc {ts = us} h) same zeros_and_ones known labelled rest around text =
           row_writes (Trunc parts) refl (λ text left around rest. refl) us moves (lead_writes g h (cc) known) rest around text
-      node_writes {moves = moves} (means_choice {parts = parts} {j = j} {i = k} {t = t} at g) (walk_choice {j = m} {t = u} i here h) same zeros_and_ones known labelled rest around text =
+      node_writes {moves = moves} (means_choice {parts = parts} {j = j} {i = k} {t = t} at g)
+          (walk_choice {j = m} {t = u} i here h) same zeros_and_ones known labelled rest around text =
           let number_same : m ≡ j = cc in
           let tree_same : t ≡ u = cc in
           ap (λ l. from l false (Choice parts ∷ around) (moves ++ (Leave ∷ rest))) (append-nil text)
-          ∙ walk_writes (number_text form (Some j)) (known j k at) g (same_part parts j at (ap (λ x. slice_get parts x) (sym number_same) ∙ here) h) tree_same (Leave ∷ rest) (Choice parts ∷ around) text false
+          ∙ walk_writes (number_text form (Some j)) (known j k at) g
+          (same_part parts j at (ap (λ x. slice_get parts x) (sym number_same) ∙ here) h) tree_same (Leave ∷ rest)
+          (Choice parts ∷ around) text false
           ∙ part_writes (text ++ (mark_text form j ++ text_in form u)) around rest
           ∙ ap (λ l. from l true around rest)
-          (append_assoc text (mark_text form j ++ text_in form u) (part_end form) ∙ ap (λ l. text ++ l) (append_assoc (mark_text form j) (text_in form u) (part_end form)))
+          (append_assoc text (mark_text form j ++ text_in form u) (part_end form)
+          ∙ ap (λ l. text ++ l) (append_assoc (mark_text form j) (text_in form u) (part_end form)))
           ∙ ap (λ x. from (text ++ (mark_text form x ++ (text_in form u ++ part_end form))) true around rest) (sym number_same)
           ∙ ap (λ l. from (text ++ l) true around rest) (sym (alternative_is joined form m u))
-      node_writes {moves = moves} (means_window {unit = unit} {count = count} {i = i} k is wide g) (walk_window h) same zeros_and_ones known labelled rest around text =
+      node_writes {moves = moves} (means_window {unit = unit} {count = count} {i = i} k is wide g) (walk_window h)
+          same zeros_and_ones known labelled rest around text =
           ap (λ l. from l false (Window unit count i ∷ around) (moves ++ (Leave ∷ rest))) (append-nil text)
           ∙ walk_writes [] (known 0 i refl) g h same (Leave ∷ rest) (Window unit count i ∷ around) text false
       node_writes {moves = moves} (means_named {label = label} {i = i} g) (walk_named {t = u} h) same zeros_and_ones known labelled rest around text =
@@ -334,14 +361,16 @@ module _ (joined : TextsAreJoined) (form : TreeForm) (d : DescV) (openings : ℕ
           ∙ ap (λ l. text ++ l) (sym (labelled_is joined form label u (labelled i label refl))))
 
       parts_write :
-          {parts : List ℕ} {o at : ℕ} {v : Values} {b : List ℕ} {ts us : Trees} {moves : List Move} → PartsMean d parts o v b ts → PartsWalk d parts at us moves → ts ≡ us → Plain parts
+          {parts : List ℕ} {o at : ℕ} {v : Values} {b : List ℕ} {ts us : Trees} {moves : List Move}
+          → PartsMean d parts o v b ts → PartsWalk d parts at us moves → ts ≡ us → Plain parts
           → Writes moves (λ left. trees_text form left us) (λ left. left_after left us)
       parts_write {moves = moves} (mean.parts_end g) (parts_end e) same plain = none_writes moves e
       parts_write {moves = moves} (mean.parts_next {i = i} b1 b2 split g behind) (parts_next {t = u} {ts = us} first others cut h later) same plain =
           more_writes u us moves first others cut (walk_writes [] (plain 0 i refl) g h (cc)) (parts_write behind later (cc) (λ j p get. plain (suc j) p get))
 
       times_write :
-          {n i o at : ℕ} {v : Values} {b : List ℕ} {ts us : Trees} {moves : List Move} → TimesMean d n i o v b ts → RepeatsWalk d i at us moves → ts ≡ us → Opens i []
+          {n i o at : ℕ} {v : Values} {b : List ℕ} {ts us : Trees} {moves : List Move}
+          → TimesMean d n i o v b ts → RepeatsWalk d i at us moves → ts ≡ us → Opens i []
           → Writes moves (λ left. trees_text form left us) (λ left. left_after left us)
       times_write {moves = moves} (times_end is g) (repeats_end e) same plain = none_writes moves e
       times_write (times_end is g) (repeats_next first others cut h later) same plain = cc
@@ -350,7 +379,8 @@ module _ (joined : TextsAreJoined) (form : TreeForm) (d : DescV) (openings : ℕ
           more_writes u us moves first others cut (walk_writes [] plain g h (cc)) (times_write behind later (cc) plain)
 
       many_write :
-          {i o at : ℕ} {v : Values} {b : List ℕ} {ts us : Trees} {moves : List Move} → ManyMean d i o v b ts → RepeatsWalk d i at us moves → ts ≡ us → Opens i []
+          {i o at : ℕ} {v : Values} {b : List ℕ} {ts us : Trees} {moves : List Move}
+          → ManyMean d i o v b ts → RepeatsWalk d i at us moves → ts ≡ us → Opens i []
           → Writes moves (λ left. trees_text form left us) (λ left. left_after left us)
       many_write {moves = moves} (many_end g) (repeats_end e) same plain = none_writes moves e
       many_write (many_end g) (repeats_next first others cut h later) same plain = cc
@@ -359,7 +389,8 @@ module _ (joined : TextsAreJoined) (form : TreeForm) (d : DescV) (openings : ℕ
           more_writes u us moves first others cut (walk_writes [] plain g h (cc)) (many_write behind later (cc) plain)
 
       lead_writes :
-          {parts : List ℕ} {o at : ℕ} {v : Values} {b : List ℕ} {ts us : Trees} {moves : List Move} → LeadMean d parts o v b ts → LeadWalk d parts at us moves → ts ≡ us → Plain parts
+          {parts : List ℕ} {o at : ℕ} {v : Values} {b : List ℕ} {ts us : Trees} {moves : List Move}
+          → LeadMean d parts o v b ts → LeadWalk d parts at us moves → ts ≡ us → Plain parts
           → Writes moves (λ left. trees_text form left us) (λ left. left_after left us)
       lead_writes (lead_last some g) (lead_end e) same plain = cc
       lead_writes {moves = moves} (lead_last {i = i} some g) (lead_next {t = u} first others cut h (lead_end e)) same plain =

@@ -102,7 +102,12 @@ impl Openings {
         number: Option<u16>,
         node: &Node,
     ) -> Result<(), NoMemory>
-        ensures added { OnOk result (self.new ≡ record { form = self.old.form; texts = self.old.texts ++ opening_of form number node.now ∷ []; templates = self.old.templates }) }
+        ensures added { OnOk result (self.new ≡ record {
+          form = self.old.form;
+          texts =
+              self.old.texts ++ opening_of form number node.now ∷ [];
+          templates = self.old.templates;
+        }) }
         ensures label { OnOk result (HasLabel node.now) }
     {
         opening.clear();

@@ -28,7 +28,8 @@ pub(crate) struct Writing {
 }
 
 impl Writing {
-    ghost use Rattle.std.specs.Prelude.{◌≡◌, ℕ, ◌+◌, ◌*◌, ◌<◌, ◌≤◌, ◌^◌, ◌++◌, List, Option, Some, true, false, codes, length, take, OnOk, vec_len, vec_capacity};
+    ghost use Rattle.std.specs.Prelude.{◌≡◌, ℕ, ◌+◌, ◌*◌, ◌<◌, ◌≤◌, ◌^◌, ◌++◌, List, Option, Some, true, false};
+    ghost use Rattle.std.specs.Prelude.{codes, length, take, OnOk, vec_len, vec_capacity};
     ghost use Rattle.csn_bits.specs.Octets.{IsBits};
     ghost use Rattle.csn_bits.specs.Numbers.{low_bits, number_of};
     ghost use Rattle.csn_bits.specs.Line.{written};

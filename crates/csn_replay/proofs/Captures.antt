@@ -1,5 +1,6 @@
 -- Where the word of a capture's line ends.
-use Rattle.std.proofs.Common.{◌≡◌, ◌≢◌, ℕ, ◌+◌, ◌<◌, ◌≤◌, Bool, true, false, not, ◌==◌, List, [], ◌∷◌, ◌++◌, length, get_or, take, drop, refl, sym, ◌∙◌, ap, arith}
+use Rattle.std.proofs.Common.{◌≡◌, ◌≢◌, ℕ, ◌+◌, ◌<◌, ◌≤◌, Bool, true, false, not, ◌==◌, List, [], ◌∷◌, ◌++◌, length}
+use Rattle.std.proofs.Common.{get_or, take, drop, refl, sym, ◌∙◌, ap, arith}
 use Rattle.std.specs.List.{list_all}
 use Rattle.std.proofs.lemmas.List.{get_or-take, length-append, length-take, length-take-le, take-append-drop, drop_more}
 use Rattle.std.proofs.lemmas.List.Elements.{All-head, All-tail, All-from_get_or}
@@ -68,7 +69,9 @@ before_space (x ∷ word) [] rest back clear free is = absurd (All-head NotSpace
 before_space (x ∷ word) (y ∷ other) rest back clear free is =
     let first : x ≡ y = cc in
     let behind : word ++ space ∷ rest ≡ other ++ space ∷ back = cc in
-    ap (λ byte. byte ∷ word) first ∙ ap (λ others. y ∷ others) (before_space word other rest back (All-tail NotSpace x word clear) (All-tail NotSpace y other free) behind)
+    ap (λ byte. byte ∷ word) first
+    ∙ ap (λ others. y ∷ others) (before_space word other rest back (All-tail NotSpace x word clear)
+    (All-tail NotSpace y other free) behind)
 
 -- the word stands before the first space of the line
 pub word_before : (line : List ℕ) (entry : Entry) (at k : ℕ) → IsCapture line entry at
@@ -78,6 +81,11 @@ word_before line entry at k (block, is, place) none here =
     (sym (split_at_space line k none.high here) ∙ is)
 
 -- a word that stands before a space makes a capture
-pub capture_at : (line : List ℕ) (entry : Entry) (k : ℕ) → k < length line → Passes (is_byte space) line k → take k line ≡ entry_word entry → IsCapture line entry (k + 1)
-capture_at line entry k within here word =
-    (drop (k + 1) line, split_at_space line k within here ∙ ap (λ text. text ++ space ∷ drop (k + 1) line) word, omega (arith, length-take k line, ap length word))
+pub capture_at : (line : List ℕ) (entry : Entry) (k : ℕ) → k < length line → Passes (is_byte space) line k
+    → take k line ≡ entry_word entry → IsCapture line entry (k + 1)
+capture_at line entry k within here word = (
+  drop (k + 1) line,
+  split_at_space line k within here ∙ ap (λ text. text ++ space ∷ drop (k + 1) line) word,
+  omega
+      (arith, length-take k line, ap length word),
+)

@@ -18,7 +18,8 @@ use Rattle.csn_replay.proofs.Captures.{NotSpace, each_entry, word_clear, space_s
 
 -- a word has at most 8 bytes
 pub word_short : (entry : Entry) → length (entry_word entry) ≤ 8
-word_short = each_entry (λ entry. length (entry_word entry) ≤ 8) (omega arith) (omega arith) (omega arith) (omega arith) (omega arith) (omega arith) (omega arith)
+word_short = each_entry (λ entry. length (entry_word entry) ≤ 8) (omega arith) (omega arith) (omega arith)
+    (omega arith) (omega arith) (omega arith) (omega arith)
 
 -- ---- a line without a space
 
@@ -28,9 +29,12 @@ still_clear line bytes clear none =
     All-append NotSpace line bytes clear (subst HasNoSpace (take-length bytes) (clear_before bytes (length bytes) (omega arith) none))
 
 -- where it is longer than the word of an entry it begins no capture of that
-pub space_missing : (line more : List ℕ) (entry : Entry) (at : ℕ) → HasNoSpace line → length (entry_word entry) < length line → IsCapture (line ++ more) entry at → ⊥
+pub space_missing : (line more : List ℕ) (entry : Entry) (at : ℕ)
+    → HasNoSpace line → length (entry_word entry) < length line → IsCapture (line ++ more) entry at → ⊥
 space_missing line more entry at clear longer is =
-    clear (length (entry_word entry)) 0 longer (sym (get_or_append_left line more 0 (length (entry_word entry)) longer) ∙ eqb-true _ _ (space_stands (line ++ more) entry at is))
+    clear (length (entry_word entry)) 0 longer
+    (sym (get_or_append_left line more 0 (length (entry_word entry)) longer)
+    ∙ eqb-true _ _ (space_stands (line ++ more) entry at is))
 
 -- ---- a line that goes on with bytes that have a space
 
@@ -103,7 +107,8 @@ pub none_left : (bytes : List ℕ) → [] ≡ drop (length bytes) bytes
 none_left bytes = sym (drop_all (length bytes) bytes (omega arith))
 
 -- nor where the line is no capture
-pub missing_none : (head : CaptureHead) (line bytes : List ℕ) → head ≡ Missing → block_so_far head (line ++ bytes) ≡ block_so_far head line ++ drop (length bytes) bytes
+pub missing_none : (head : CaptureHead) (line bytes : List ℕ)
+    → head ≡ Missing → block_so_far head (line ++ bytes) ≡ block_so_far head line ++ drop (length bytes) bytes
 missing_none head line bytes is =
     subst (λ h. block_so_far h (line ++ bytes) ≡ block_so_far h line ++ drop (length bytes) bytes) (sym is) (none_left bytes)
 
@@ -115,7 +120,8 @@ missing_is_on head line bytes is of =
     subst (λ h. HeadOf h (line ++ bytes)) (sym is) still
 
 -- behind it all that comes
-pub block_goes_on : (head : CaptureHead) (entry : Entry) (line bytes : List ℕ) → head ≡ Block entry → HeadOf head line → block_so_far head (line ++ bytes) ≡ block_so_far head line ++ bytes
+pub block_goes_on : (head : CaptureHead) (entry : Entry) (line bytes : List ℕ) → head ≡ Block entry → HeadOf head line
+    → block_so_far head (line ++ bytes) ≡ block_so_far head line ++ bytes
 block_goes_on head entry line bytes is of =
     let known : HeadOf (Block entry) line = subst (λ h. HeadOf h line) is of in
     let long : length (entry_word entry) + 1 ≤ length line = omega (arith, ap length known.1, length-append (entry_word entry) (space ∷ known.0)) in

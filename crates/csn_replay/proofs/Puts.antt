@@ -24,7 +24,8 @@ take_more_of p n xs h =
     there ∙ ap (λ ys. take p xs ++ take n ys) (sym (slice_from p xs))
 
 -- the first bytes of a text were taken, and no more
-pub broke_off : (told : Told) (before now after : Option (List ℕ)) (n : ℕ) (text : List ℕ) → told ≢ Ok → after ≡ now → Appended before now (take n text) → Wrote told before after text
+pub broke_off : (told : Told) (before now after : Option (List ℕ)) (n : ℕ) (text : List ℕ)
+    → told ≢ Ok → after ≡ now → Appended before now (take n text) → Wrote told before after text
 broke_off told before now after n text fault still took =
     (take n text, drop n text, sym (take-append-drop n text), subst (λ taken. Appended before taken (take n text)) (sym still) took, λ ok. absurd (fault ok))
 
@@ -39,7 +40,8 @@ pub kept_all : {Blamed : Type 0} (Steady : Type 0) (faults : ℕ) → Keeps Stea
 kept_all Steady faults = (omega arith, (λ was. (was, refl)), (λ free. refl))
 
 -- all calls but the last one met no fault
-pub kept_on : {Old Middle New Blamed Later : Type 0} {old middle new : ℕ} → middle ≡ old → (Old → Middle) → Keeps Middle New middle new Blamed → (Blamed → Later) → Keeps Old New old new Later
+pub kept_on : {Old Middle New Blamed Later : Type 0} {old middle new : ℕ} → middle ≡ old → (Old → Middle)
+    → Keeps Middle New middle new Blamed → (Blamed → Later) → Keeps Old New old new Later
 kept_on same steady keeps blames = (
   omega (arith, same, keeps.0),
   (λ was. let next = keeps.1 (steady was) in (next.0, next.1 ∙ same)),

@@ -1,5 +1,6 @@
 -- Showing a block to watchers one after another, and letting watchers report.
-use Rattle.std.proofs.Common.{◌≡◌, ◌≢◌, ℕ, ◌+◌, ◌≤◌, Bool, cond, not, true, false, List, ◌∷◌, [], ◌++◌, map, length, filter, Option, Some, None, codes, refl, sym, ◌∙◌, ap, subst, arith}
+use Rattle.std.proofs.Common.{◌≡◌, ◌≢◌, ℕ, ◌+◌, ◌≤◌, Bool, cond, not, true, false, List, ◌∷◌, [], ◌++◌, map, length}
+use Rattle.std.proofs.Common.{filter, Option, Some, None, codes, refl, sym, ◌∙◌, ap, subst, arith}
 use Rattle.std.proofs.lemmas.List.{append-nil, append_assoc, length-append, length-map}
 use Rattle.csn_io.specs.Put.{Appended}
 use Rattle.csn_io.proofs.Told.{appended_more}
@@ -73,7 +74,8 @@ reported_next due left first WriteFault was now later so_far line = broke_off du
 reported_next due left first NoMemory was now later so_far line = broke_off due left first NoMemory was now later (λ is. cc) so_far line
 
 -- behind a fault it is all one who is left
-reported_no_more : (told : Told) (due left rest : List Watched) (was now : Option (List ℕ)) → told ≢ Ok → Reported told due left was now → Reported told due rest was now
+reported_no_more : (told : Told) (due left rest : List Watched) (was now : Option (List ℕ))
+    → told ≢ Ok → Reported told due left was now → Reported told due rest was now
 reported_no_more Ok due left rest was now fault so_far = absurd (fault refl)
 reported_no_more WriteFault due left rest was now fault so_far = so_far
 reported_no_more NoMemory due left rest was now fault so_far = so_far
@@ -93,7 +95,8 @@ pub one_reported_of : {A : Type 0} (f : A → Watched) (due left rest : List A) 
 one_reported_of f due left rest first was now later next so_far line =
     one_reported (map f due) (map f rest) (f first) was now later (subst (λ xs. Reporting (map f due) (map f xs) was now) next so_far) line
 
-pub broke_off_of : {A : Type 0} (f : A → Watched) (due left rest : List A) (first : A) (told : Told) (was now later : Option (List ℕ)) → told ≢ Ok → left ≡ first ∷ rest
+pub broke_off_of : {A : Type 0} (f : A → Watched) (due left rest : List A) (first : A) (told : Told)
+    (was now later : Option (List ℕ)) → told ≢ Ok → left ≡ first ∷ rest
     → Reporting (map f due) (map f left) was now → Wrote told now later (report_line (f first) ++ codes "\n") → Wrote told was later (reports (map f due))
 broke_off_of f due left rest first told was now later fault next so_far line =
     broke_off (map f due) (map f rest) (f first) told was now later fault (subst (λ xs. Reporting (map f due) (map f xs) was now) next so_far) line
@@ -198,7 +201,8 @@ no_others : (seen : Seen) (all left kept others : List Watched) (told : Told) (w
 no_others seen all left kept [] told was now end is stay reported = (is ∙ sym stay, reported_to_end told (done_watching seen all) was now reported)
 no_others seen all left kept (first ∷ rest) told was now end is stay reported = absurd (omega (arith, ap length is, length-append kept (first ∷ rest)))
 
-pub all_told : {A : Type 0} (f : A → Watched) (xs : List A) (seen : Seen) (all : List Watched) (at : ℕ) (told : Told) (was now : Option (List ℕ)) → length xs ≤ at
+pub all_told : {A : Type 0} (f : A → Watched) (xs : List A) (seen : Seen) (all : List Watched) (at : ℕ) (told : Told)
+    (was now : Option (List ℕ)) → length xs ≤ at
     → Telling seen all (map f xs) at told was now → (map f xs ≡ still_watching seen all) × Wrote told was now (reports (done_watching seen all))
 all_told f xs seen all at told was now end so_far =
     no_others seen all (map f xs) so_far.kept so_far.others told was now (omega (arith, so_far.here, length-map xs f)) so_far.is so_far.stay so_far.reported

@@ -1,5 +1,6 @@
 -- Going through a list of watchers, which is seen as the list of what they count.
-use Rattle.std.proofs.Common.{◌≡◌, ℕ, zero, suc, ◌<◌, List, ◌∷◌, [], ◌++◌, map, length, get_or, get_or-set_same, set, true, false, Some, None, refl, sym, ◌∙◌, ap, subst, arith}
+use Rattle.std.proofs.Common.{◌≡◌, ℕ, zero, suc, ◌<◌, List, ◌∷◌, [], ◌++◌, map, length, get_or, get_or-set_same, set}
+use Rattle.std.proofs.Common.{true, false, Some, None, refl, sym, ◌∙◌, ap, subst, arith}
 use Rattle.std.specs.List.{remove}
 use Rattle.csn_replay.specs.declared.seen.Seen.{Seen}
 use Rattle.csn_replay.specs.declared.seen.Go.TheVariants.{Stay, Done}
@@ -50,7 +51,8 @@ stays f seen xs at old new before others there saw going here within is =
 
 -- the next watcher saw the block, is done, and was taken out
 pub ends : {A : Type 0} (f : A → Watched) (seen : Seen) (xs after : List A) (at : ℕ) (old new taken : A) (before others : List Watched)
-    → old ≡ get_or xs at old → f new ≡ counted seen (f old) → is_done (f new) ≡ true → taken ≡ get_or (set xs at new) at taken → after ≡ remove (set xs at new) at
+    → old ≡ get_or xs at old → f new ≡ counted seen (f old)
+    → is_done (f new) ≡ true → taken ≡ get_or (set xs at new) at taken → after ≡ remove (set xs at new) at
     → length before ≡ at → at < length xs → map f xs ≡ before ++ others → Showed seen before others (Some (f taken)) (map f after)
 ends f seen xs after at old new taken before others there saw done out left here within is =
     let behind = stands_behind f xs at old before others here within is in

@@ -64,7 +64,15 @@ module _ (rules : RulesV) (r : Reading) (n : List ℕ) (shaped : AreShaped rules
       subst P (sym h.is) (record {
         few = omega (arith, few, long);
         numbered = laid_spans nodes well;
-        well_formed = laid_formed nodes well (λ k shown b crowded. h.not_overfull k (record { counted = crowded.counted; seen = shown; sees = below_sees nodes b; full = crowded.full }));
+        well_formed =
+            laid_formed nodes well
+            (λ k shown b crowded. h.not_overfull k (record {
+              counted = crowded.counted;
+              seen = shown;
+              sees =
+                  below_sees nodes b;
+              full = crowded.full;
+            }));
       })
 
   -- where nothing is refused, as every description does

@@ -10,17 +10,23 @@ use Rattle.csn_desc.specs.Examples.{A, B, fields}
 use Rattle.csn_grammar.specs.declared.exponent.Exponent.TheVariants.{Number}
 use Rattle.csn_grammar.specs.ExprV.{ExprV, expr, lits, name, sends}
 use Rattle.csn_grammar.specs.RulesV.{RulesV}
-use Rattle.csn_grammar.specs.Void.{Void, void_none, void_name, void_received, void_sent, void_group, void_seq, void_choice, void_here, void_later, all_next, kept_end, kept_next, kept_void}
+use Rattle.csn_grammar.specs.Void.{Void, void_none, void_name, void_received, void_sent, void_group, void_seq}
+use Rattle.csn_grammar.specs.Void.{void_choice, void_here, void_later, all_next, kept_end, kept_next, kept_void}
 use Rattle.csn_resolve.specs.Seen.{Seen}
 use Rattle.csn_resolve.specs.declared.why.Why.TheVariants.{Undefined, DefinedTwice, Recursive}
 use Rattle.csn_resolve.specs.Steps.{begins, refused}
 use Rattle.csn_resolve.specs.Counts.{count_number}
-use Rattle.csn_resolve.specs.Gives.{placed, Gives, RuleGives, gives_lits, gives_field, gives_seq, gives_choice, gives_only, gives_labelled, gives_group, gives_received, items_end, items_next, each_end, each_next, rule_plain, rule_tail}
-use Rattle.csn_resolve.specs.Walk.{Around, Walk, is_accepted, left_plain, walk_lits, walk_field, walk_undefined, walk_recursive, walk_group, walk_labelled, walk_seq, walk_choice}
+use Rattle.csn_resolve.specs.Gives.{placed, Gives, RuleGives, gives_lits, gives_field, gives_seq, gives_choice}
+use Rattle.csn_resolve.specs.Gives.{gives_only, gives_labelled, gives_group, gives_received, items_end, items_next}
+use Rattle.csn_resolve.specs.Gives.{each_end, each_next, rule_plain, rule_tail}
+use Rattle.csn_resolve.specs.Walk.{Around, Walk, is_accepted, left_plain, walk_lits, walk_field, walk_undefined}
+use Rattle.csn_resolve.specs.Walk.{walk_recursive, walk_group, walk_labelled, walk_seq, walk_choice}
 use Rattle.csn_resolve.specs.Walk as walk
 use Rattle.csn_desc.specs.Overfull.{IsOverfull}
 use Rattle.csn_resolve.specs.Resolved.{asked_rule}
-use Rattle.csn_resolve.specs.Examples.{X, field, fields_rule, fields_rules, FieldsAreResolved, refused_rule, refused_rules, RefusalsHaveAnOrder, dropping_rules, AlternativesAreDropped, repeated_rules, CountsStandOnTheNearest, tail_rules, TailsAreRepetitions}
+use Rattle.csn_resolve.specs.Examples.{X, field, fields_rule, fields_rules, FieldsAreResolved, refused_rule}
+use Rattle.csn_resolve.specs.Examples.{refused_rules, RefusalsHaveAnOrder, dropping_rules, AlternativesAreDropped}
+use Rattle.csn_resolve.specs.Examples.{repeated_rules, CountsStandOnTheNearest, tail_rules, TailsAreRepetitions}
 use Rattle.csn_resolve.proofs.Emptiness.Full.{rule_full}
 
 -- a labelled field gives two nodes

@@ -20,7 +20,8 @@ use Rattle.csn_resolve.specs.Going.{IsFirst}
 use Rattle.csn_resolve.specs.Made.{RuleQuiet, RuleGivesFew, AddsRule, IsOverfullAt}
 use Rattle.csn_resolve.specs.Steps.{Step, refused, Quiet}
 use Rattle.csn_resolve.specs.Walk.{outermost, RuleWalk}
-use Rattle.csn_resolve.specs.Resolved.{ResolveSteps, asked_unknown, asked_rule, twice_steps, NameGives, nodes_of, AreRefusals, IsRefused, refused_on_walk, refused_at_last, IsResolved}
+use Rattle.csn_resolve.specs.Resolved.{ResolveSteps, asked_unknown, asked_rule, twice_steps, NameGives, nodes_of}
+use Rattle.csn_resolve.specs.Resolved.{AreRefusals, IsRefused, refused_on_walk, refused_at_last, IsResolved}
 use Rattle.csn_resolve.proofs.Giving.Given.{nodes_given}
 use Rattle.csn_resolve.proofs.Laying.LaidFacts.{laid_nodes}
 use Rattle.csn_resolve.proofs.Giving.FewNodes.{few_nodes}
@@ -85,7 +86,8 @@ module _ (rules : RulesV) (r : Reading) (n : List ℕ) where
       (there.0, there.2, omega (arith, few_nodes rules r n there.0 h there.1))
 
   -- the nodes that were made are those that the name gives
-  pub made_gives : {rule : Rule} {made : List Placed} → rule_of rules n ≡ Some rule → AreRefusals rules n r [] → AddsRule rules r rule [] [] made → NameGives rules n r made
+  pub made_gives : {rule : Rule} {made : List Placed} → rule_of rules n ≡ Some rule → AreRefusals rules n r []
+      → AddsRule rules r rule [] [] made → NameGives rules n r made
   made_gives {made = made} at h adds =
       let there = rule_gives at h in
       let same : made ≡ there.0 = adds there.0 there.2 in
@@ -128,7 +130,8 @@ module _ (rules : RulesV) (r : Reading) (n : List ℕ) where
   first_refused {fault = NoMemory} h p = absurd (no_refusal p)
 
   pub if_resolved :
-      {rule : Rule} {made : List Placed} {E : Type 0} (result : Result DescV E) → rule_of rules n ≡ Some rule → AreRefusals rules n r [] → AddsRule rules r rule [] [] made
+      {rule : Rule} {made : List Placed} {E : Type 0} (result : Result DescV E)
+      → rule_of rules n ≡ Some rule → AreRefusals rules n r [] → AddsRule rules r rule [] [] made
       → IfOk result (λ d. d ≡ record { reading = r; nodes = nodes_of made }) → OnOk result ((i : ℕ) → ¬ IsOverfull (nodes_of made) i)
       → IfOk result (λ d. IsResolved rules n r d)
   if_resolved (Ok d) at h adds is fits = is_resolved at h adds fits is

@@ -11,7 +11,8 @@ use Rattle.csn_desc.specs.declared.symbol.Symbol.{Symbol}
 use Rattle.csn_grammar.specs.declared.exponent.Exponent.{Exponent}
 use Rattle.csn_grammar.specs.declared.exponent.Exponent.TheVariants.{Any}
 use Rattle.csn_grammar.specs.declared.rules.Rule.{Rule}
-use Rattle.csn_grammar.specs.ExprV.{ExprV, expr, lits, null, bit, octet, name, labelled, group, seq, choice, power, cut, both, sends, ExprsV, no_item, item, BranchesV, no_branch, branch}
+use Rattle.csn_grammar.specs.ExprV.{ExprV, expr, lits, null, bit, octet, name, labelled, group, seq, choice, power}
+use Rattle.csn_grammar.specs.ExprV.{cut, both, sends, ExprsV, no_item, item, BranchesV, no_branch, branch}
 use Rattle.csn_grammar.specs.RulesV.{RulesV}
 use Rattle.csn_grammar.specs.Names.{same_name, is_built_in, rule_of}
 use Rattle.csn_grammar.specs.Forms.{unit_of, is_bit, WidthV, width_of}

@@ -2,7 +2,10 @@
 -- which numbers, is this project's own choice.
 use Rattle.std.specs.Prelude.{ℕ}
 use Rattle.csn_resolve.specs.declared.why.Why.{Why}
-use Rattle.csn_resolve.specs.declared.why.Why.TheVariants.{Undefined, DefinedTwice, Recursive, ValUnknown, ValWidth, ZeroCount, CountTooLarge, IntersectionForm, ErrorBranchForm, NoString, TooManyNodes, TooDeep, TooManyVals}
+use Rattle.csn_resolve.specs.declared.why.Why.TheVariants.{Undefined, DefinedTwice, Recursive, ValUnknown, ValWidth}
+use Rattle.csn_resolve.specs.declared.why.Why.TheVariants.{ZeroCount, CountTooLarge, IntersectionForm}
+use Rattle.csn_resolve.specs.declared.why.Why.TheVariants.{ErrorBranchForm, NoString, TooManyNodes, TooDeep}
+use Rattle.csn_resolve.specs.declared.why.Why.TheVariants.{TooManyVals}
 
 -- the number by which a reason is told
 abbrev pub number_of : Why → ℕ

@@ -6,7 +6,9 @@ ghost use Rattle.csn_grammar.specs.ExprV.{ExprV, branches_of, expr, name as name
 ghost use Rattle.csn_grammar.specs.Void.{Kept};
 ghost use Rattle.csn_resolve.specs.declared.marks.Test.TheVariants.{Void};
 ghost use Rattle.csn_resolve.specs.Views.{tail_view};
-ghost use Rattle.csn_resolve.specs.Made.{shown_view, only, QuietAt, AllQuiet, BranchesQuiet, RuleQuiet, IsKept, GivesFew, ItemsGiveFew, KeptGiveFew, RuleGivesFew, TailGivesFew, TurnGivesFew, Adds, AddsItems, AddsKept, AddsRule, AddsTail, AddsTurn};
+ghost use Rattle.csn_resolve.specs.Made.{shown_view, only, QuietAt, AllQuiet, BranchesQuiet, RuleQuiet, IsKept};
+ghost use Rattle.csn_resolve.specs.Made.{GivesFew, ItemsGiveFew, KeptGiveFew, RuleGivesFew, TailGivesFew};
+ghost use Rattle.csn_resolve.specs.Made.{TurnGivesFew, Adds, AddsItems, AddsKept, AddsRule, AddsTail, AddsTurn};
 
 use crate::form::{unit_of, window_of};
 use crate::leaf::spare_node;
@@ -95,9 +97,11 @@ impl<'a> Builder<'a> {
     ) -> Built
         requires within { count ≤ length items.now }
         requires quiet { AllQuiet self.now.names.now self.now.reading round.names (take count items.now) }
-        requires gives { ItemsGiveFew self.now.names.now self.now.reading (take count items.now) (length made.old) (shown_view self.now.reading round.shown.now) }
+        requires gives { ItemsGiveFew self.now.names.now self.now.reading (take count items.now) (length made.old)
+            (shown_view self.now.reading round.shown.now) }
         requires room { length parts.old ≤ length made.old }
-        ensures { OnOk result (AddsItems self.now.names.now self.now.reading (take count items.now) (shown_view self.now.reading round.entry.shown.now) parts.old parts.new made.old made.new) }
+        ensures { OnOk result (AddsItems self.now.names.now self.now.reading (take count items.now)
+            (shown_view self.now.reading round.entry.shown.now) parts.old parts.new made.old made.new) }
     {
         let mut nodes = Vec::new(self.alloc);
         for at in 0..count {
@@ -125,8 +129,12 @@ impl<'a> Builder<'a> {
         made: &mut Made,
     ) -> Built
         requires quiet { BranchesQuiet self.now.names.now self.now.reading round.names branches.now }
-        requires gives { (end : ℕ) × GivesFew self.now.names.now self.now.reading (expr place end (choice (branches_of branches.now))) (length made.old) (shown_view self.now.reading round.shown.now) }
-        ensures { OnOk result ((end : ℕ) → Adds self.now.names.now self.now.reading (expr place end (choice (branches_of branches.now))) (shown_view self.now.reading round.entry.shown.now) made.old made.new) }
+        requires gives { (end : ℕ) × GivesFew self.now.names.now self.now.reading
+            (expr place end (choice (branches_of branches.now))) (length made.old)
+            (shown_view self.now.reading round.shown.now) }
+        ensures { OnOk result ((end : ℕ) → Adds self.now.names.now self.now.reading
+            (expr place end (choice (branches_of branches.now))) (shown_view self.now.reading round.entry.shown.now)
+            made.old made.new) }
     {
         if let Some(body) = self.only_kept(branches) {
             return self.build(round, body, made);
@@ -151,7 +159,8 @@ impl<'a> Builder<'a> {
         requires quiet { BranchesQuiet self.now.names.now self.now.reading round.names branches.now }
         requires gives { KeptGiveFew self.now.names.now self.now.reading branches.now (length made.old) (shown_view self.now.reading round.shown.now) }
         requires room { length parts.old ≤ length made.old }
-        ensures { OnOk result (AddsKept self.now.names.now self.now.reading branches.now (shown_view self.now.reading round.entry.shown.now) parts.old parts.new made.old made.new) }
+        ensures { OnOk result (AddsKept self.now.names.now self.now.reading branches.now
+            (shown_view self.now.reading round.entry.shown.now) parts.old parts.new made.old made.new) }
     {
         for at in 0..branches.len() {
             let branch = branches.get(at);
@@ -175,8 +184,12 @@ impl<'a> Builder<'a> {
         made: &mut Made,
     ) -> Built
         requires quiet { (end : ℕ) × QuietAt self.now.names.now self.now.reading round.names (expr place end (power part.now count.now)) }
-        requires gives { (end : ℕ) × GivesFew self.now.names.now self.now.reading (expr place end (power part.now count.now)) (length made.old) (shown_view self.now.reading round.shown.now) }
-        ensures { OnOk result ((end : ℕ) → Adds self.now.names.now self.now.reading (expr place end (power part.now count.now)) (shown_view self.now.reading round.entry.shown.now) made.old made.new) }
+        requires gives { (end : ℕ) × GivesFew self.now.names.now self.now.reading
+            (expr place end (power part.now count.now)) (length made.old)
+            (shown_view self.now.reading round.shown.now) }
+        ensures { OnOk result ((end : ℕ) → Adds self.now.names.now self.now.reading
+            (expr place end (power part.now count.now)) (shown_view self.now.reading round.entry.shown.now)
+            made.old made.new) }
     {
         if let Exponent::Any = count {
             if let Form::Bit = part.form {
@@ -206,8 +219,11 @@ impl<'a> Builder<'a> {
         made: &mut Made,
     ) -> Built
         requires quiet { (end : ℕ) × QuietAt self.now.names.now self.now.reading round.names (expr place end (both left.now right.now)) }
-        requires gives { (end : ℕ) × GivesFew self.now.names.now self.now.reading (expr place end (both left.now right.now)) (length made.old) (shown_view self.now.reading round.shown.now) }
-        ensures { OnOk result ((end : ℕ) → Adds self.now.names.now self.now.reading (expr place end (both left.now right.now)) (shown_view self.now.reading round.entry.shown.now) made.old made.new) }
+        requires gives { (end : ℕ) × GivesFew self.now.names.now self.now.reading
+            (expr place end (both left.now right.now)) (length made.old) (shown_view self.now.reading round.shown.now) }
+        ensures { OnOk result ((end : ℕ) → Adds self.now.names.now self.now.reading
+            (expr place end (both left.now right.now)) (shown_view self.now.reading round.entry.shown.now)
+            made.old made.new) }
     {
         let Some(window) = window_of(left, right) else {
             unreachable!()
@@ -223,8 +239,10 @@ impl<'a> Builder<'a> {
     #[cycle(build)]
     fn build_name(&self, round: Round<'_>, place: u32, label: &Label, made: &mut Made) -> Built
         requires quiet { (end : ℕ) × QuietAt self.now.names.now self.now.reading round.names (expr place end (named label.now)) }
-        requires gives { (end : ℕ) × GivesFew self.now.names.now self.now.reading (expr place end (named label.now)) (length made.old) (shown_view self.now.reading round.shown.now) }
-        ensures { OnOk result ((end : ℕ) → Adds self.now.names.now self.now.reading (expr place end (named label.now)) (shown_view self.now.reading round.entry.shown.now) made.old made.new) }
+        requires gives { (end : ℕ) × GivesFew self.now.names.now self.now.reading (expr place end (named label.now))
+            (length made.old) (shown_view self.now.reading round.shown.now) }
+        ensures { OnOk result ((end : ℕ) → Adds self.now.names.now self.now.reading (expr place end (named label.now))
+            (shown_view self.now.reading round.entry.shown.now) made.old made.new) }
     {
         match self.names.number(label.bytes()) {
             Some(number) => {
@@ -257,8 +275,10 @@ impl<'a> Builder<'a> {
     fn build_tail(&self, round: Round<'_>, place: u32, tail: Tail<'_>, made: &mut Made) -> Built
         requires within { tail.count ≤ length tail.items.now }
         requires quiet { AllQuiet self.now.names.now self.now.reading round.names (take tail.count tail.items.now) }
-        requires gives { TailGivesFew self.now.names.now self.now.reading place (tail_view tail) (length made.old) (shown_view self.now.reading round.shown.now) }
-        ensures { OnOk result (AddsTail self.now.names.now self.now.reading place (tail_view tail.entry) (shown_view self.now.reading round.entry.shown.now) made.old made.new) }
+        requires gives { TailGivesFew self.now.names.now self.now.reading place (tail_view tail) (length made.old)
+            (shown_view self.now.reading round.shown.now) }
+        ensures { OnOk result (AddsTail self.now.names.now self.now.reading place (tail_view tail.entry)
+            (shown_view self.now.reading round.entry.shown.now) made.old made.new) }
     {
         let at = made.len();
         let mut parts = Parts::new(self.alloc);
@@ -279,7 +299,8 @@ impl<'a> Builder<'a> {
         requires within { tail.count ≤ length tail.items.now }
         requires quiet { AllQuiet self.now.names.now self.now.reading round.names (take tail.count tail.items.now) }
         requires gives { TurnGivesFew self.now.names.now self.now.reading (tail_view tail) (length made.old) (shown_view self.now.reading round.shown.now) }
-        ensures { OnOk result (AddsTurn self.now.names.now self.now.reading (tail_view tail.entry) (shown_view self.now.reading round.entry.shown.now) made.old made.new) }
+        ensures { OnOk result (AddsTurn self.now.names.now self.now.reading (tail_view tail.entry)
+            (shown_view self.now.reading round.entry.shown.now) made.old made.new) }
     {
         let sequence = made.len() + 1;
         let word = sequence + 1;

@@ -1,6 +1,11 @@
 //! Laws over the definitions, each the contract of a function that does nothing.
 
-ghost use Rattle.csn_resolve.specs.Laws.{NodesAreGivenOnce, VoidGivesNothing, StepsAreWalkedOnce, ResolvedOnce, RefusalsAreOneList, RefusedOnce, RefusedOrResolved, EmptinessIsDecided, WidthsAreDecided, WalksEnd, RefusalsEnd, NodesAreGiven, NodesAreNumbered, NamesAreAnswered, ResolvedAreDescriptions, EmptyBitsAreFollowed, MeaningsAreKept, FollowedAreKept, StringsAreKept, BlocksAreFollowedAlike, PlacesAreKept};
+ghost use Rattle.csn_resolve.specs.Laws.{NodesAreGivenOnce, VoidGivesNothing, StepsAreWalkedOnce, ResolvedOnce};
+ghost use Rattle.csn_resolve.specs.Laws.{RefusalsAreOneList, RefusedOnce, RefusedOrResolved, EmptinessIsDecided};
+ghost use Rattle.csn_resolve.specs.Laws.{WidthsAreDecided, WalksEnd, RefusalsEnd, NodesAreGiven, NodesAreNumbered};
+ghost use Rattle.csn_resolve.specs.Laws.{NamesAreAnswered, ResolvedAreDescriptions, EmptyBitsAreFollowed};
+ghost use Rattle.csn_resolve.specs.Laws.{MeaningsAreKept, FollowedAreKept, StringsAreKept, BlocksAreFollowedAlike};
+ghost use Rattle.csn_resolve.specs.Laws.{PlacesAreKept};
 
 /// An expression gives one list of nodes, at one number; so a named rule has one description.
 pub fn descriptions_are_one()

@@ -64,7 +64,12 @@ pub(crate) fn inside<'a>(around: Around<'a>) -> Around<'a>
 /// Behind items of a sequence or truncation, which are seen.
 pub(crate) fn behind<'a>(around: Around<'a>, seen: &'a Seen<'a>) -> Around<'a>
     ensures depth { result.depth ≡ around.entry.depth }
-    ensures around { (r : ReadingV) → around_view r result ≡ record { depth = around.entry.depth; names = entered_view around.entry.names.now; seen = seen_view r seen.now } }
+    ensures around { (r : ReadingV) → around_view r result ≡ record {
+      depth = around.entry.depth;
+      names =
+          entered_view around.entry.names.now;
+      seen = seen_view r seen.now;
+    } }
 {
     Around {
         depth: around.depth,

@@ -12,7 +12,9 @@ use Rattle.csn_command.specs.declared.command.RuleCommand.TheVariants.{Show, Wri
 use Rattle.csn_json.specs.declared.form.TreeForm.TheVariants.{Text, Json}
 use Rattle.csn_command.specs.declared.command.RuleReport.{RuleReport}
 use Rattle.csn_command.specs.declared.command.RuleReport.TheVariants.{Check, Certificate}
-use Rattle.csn_command.specs.Command.{IsArgument, IsCommand, NamesRule, NamesReading, IsSoak, IsCompat, IsVerify, command_word, report_word, word_of, rule_row, entries_row, migrate_row, compat_row, verify_row, over_downlink, over_soaked, over_all}
+use Rattle.csn_command.specs.Command.{IsArgument, IsCommand, NamesRule, NamesReading, IsSoak, IsCompat, IsVerify}
+use Rattle.csn_command.specs.Command.{command_word, report_word, word_of, rule_row, entries_row, migrate_row}
+use Rattle.csn_command.specs.Command.{compat_row, verify_row, over_downlink, over_soaked, over_all}
 
 -- there are words, and each can be an argument
 abbrev pub AreArguments : List (List ℕ) → Type 0
@@ -46,24 +48,44 @@ digit_fits : (word : List ℕ) → 48 < get_or word 0 0 → IsArgument word
 digit_fits [] first = absurd (omega (arith, first))
 digit_fits (c ∷ cs) first = λ e. absurd (omega (arith, e, first))
 
-rule_fits : {command : List ℕ} {words : List (List ℕ)} {file name : List ℕ} {reading : Reading} → IsArgument command → NamesRule command words file name reading → AreArguments words
+rule_fits : {command : List ℕ} {words : List (List ℕ)} {file name : List ℕ} {reading : Reading}
+    → IsArgument command → NamesRule command words file name reading → AreArguments words
 rule_fits {command} {words} {file} {name} {reading} fits row =
     subst AreArguments (sym row.words_are) (omega arith, (fits, (row.file_fits, (row.name_fits, (reading_fits reading, tt)))))
 
-reading_row_fits : {command : List ℕ} {words : List (List ℕ)} (reading : Reading) → IsArgument command → NamesReading command words reading → AreArguments words
+reading_row_fits : {command : List ℕ} {words : List (List ℕ)} (reading : Reading)
+    → IsArgument command → NamesReading command words reading → AreArguments words
 reading_row_fits {command} {words} reading fits row = subst AreArguments (sym row) (omega arith, (fits, (reading_fits reading, tt)))
 
 soak_fits : {words : List (List ℕ)} {entry : Entry} {n : ℕ} → IsSoak words entry n → AreArguments words
 soak_fits {words} {entry} {n} row =
-    subst AreArguments (sym row.words_are) (omega arith, ((λ e. absurd (omega (arith, e))), (entry_fits entry, (digit_fits _ (first_decimal n row.some (omega (arith, row.few))), tt))))
+    subst AreArguments (sym row.words_are) (
+      omega arith,
+      (
+        (λ e. absurd (omega (arith, e))),
+        (entry_fits entry, (digit_fits _ (first_decimal n row.some (omega (arith, row.few))), tt)),
+      ),
+    )
 
 compat_fits : {words : List (List ℕ)} {before after name : List ℕ} {reading : Reading} → IsCompat words before after name reading → AreArguments words
 compat_fits {words} {reading = reading} row =
-    subst AreArguments (sym row.words_are) (omega arith, ((λ e. absurd (omega (arith, e))), (row.before_fits, (row.after_fits, (row.name_fits, (reading_fits reading, tt))))))
+    subst AreArguments (sym row.words_are) (
+      omega arith,
+      (
+        (λ e. absurd (omega (arith, e))),
+        (row.before_fits, (row.after_fits, (row.name_fits, (reading_fits reading, tt)))),
+      ),
+    )
 
 verify_fits : {words : List (List ℕ)} {file name certificate : List ℕ} {reading : Reading} → IsVerify words file name reading certificate → AreArguments words
 verify_fits {words} {reading = reading} row =
-    subst AreArguments (sym row.words_are) (omega arith, ((λ e. absurd (omega (arith, e))), (row.file_fits, (row.name_fits, (reading_fits reading, (row.certificate_fits, tt))))))
+    subst AreArguments (sym row.words_are) (
+      omega arith,
+      (
+        (λ e. absurd (omega (arith, e))),
+        (row.file_fits, (row.name_fits, (reading_fits reading, (row.certificate_fits, tt)))),
+      ),
+    )
 
 -- the words of a row
 pub are_arguments : {words : List (List ℕ)} → IsCommand words → AreArguments words

@@ -6,7 +6,8 @@ use Rattle.csn_lines.specs.Laws.{JobsHaveAnswers, JobsHaveOneAnswer}
 use Rattle.csn_run.specs.Laws.{LinesHaveAnswers, LinesHaveOneAnswer}
 use Rattle.csn_run.specs.Result.{AsksFor, asks_by_rule, asks_migrate, asks_segments, asks_replay}
 
-has_plans : {words : List (List ℕ)} {files : List ℕ → Option (List ℕ)} {watchers : List Watched} {job : LineJob} → AsksFor words files watchers job → HasPlans job
+has_plans : {words : List (List ℕ)} {files : List ℕ → Option (List ℕ)} {watchers : List Watched} {job : LineJob}
+    → AsksFor words files watchers job → HasPlans job
 has_plans (asks_by_rule command file name text reading rules d row held fits compiled is) = subst HasPlans (sym is) (text, d, compiled)
 has_plans (asks_migrate row is) = subst HasPlans (sym is) tt
 has_plans (asks_segments reading rules d row fits compiled is) = subst HasPlans (sym is) (d, compiled)

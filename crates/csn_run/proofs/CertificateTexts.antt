@@ -6,7 +6,8 @@ use Rattle.csn_cert.specs.CertificateText.{CertificateText}
 use Rattle.csn_certmake.specs.Claimed.{ClaimsNullable, ClaimsReached, ClaimsEnds, ClaimsStart, ClaimsFollow, ClaimsPatterns, IsCertificateText}
 
 pub text_of_claims :
-    (plan d : DescV) (c : List NodeV) (text : List ℕ) → plan ≡ d → length c ≡ length plan.nodes → ClaimsNullable plan c → ClaimsReached plan c → ClaimsEnds plan c
+    (plan d : DescV) (c : List NodeV) (text : List ℕ) → plan ≡ d → length c ≡ length plan.nodes
+    → ClaimsNullable plan c → ClaimsReached plan c → ClaimsEnds plan c
     → ClaimsStart plan c → ClaimsFollow plan c → ClaimsPatterns plan c → CertificateText c text → IsCertificateText d text
 text_of_claims plan d c text is number nullable reached ends start follow patterns spelled =
     subst (λ (e : DescV). IsCertificateText e text) is (record {

@@ -14,8 +14,11 @@ Follows Stands A B =
     (kept : Kept) (line text : List ℕ) (kept' : Kept) → A kept line text kept' → (before : LineState) → Stands kept before
     → (after : LineState) × B before line text after × Stands kept' after
 
-module _ (Stands : Kept → LineState → Type 0) (A : Kept → List ℕ → List ℕ → Kept → Type 0) (B : LineState → List ℕ → List ℕ → LineState → Type 0) (follows : Follows Stands A B) where
-  steps_follow : (kept kept' : Kept) (before : LineState) (lines texts : List (List ℕ)) → AllSteps A kept lines texts kept' → Stands kept before → (after : LineState) × AllSteps B before lines texts after × Stands kept' after
+module _ (Stands : Kept → LineState → Type 0) (A : Kept → List ℕ → List ℕ → Kept → Type 0)
+    (B : LineState → List ℕ → List ℕ → LineState → Type 0) (follows : Follows Stands A B) where
+  steps_follow : (kept kept' : Kept) (before : LineState) (lines texts : List (List ℕ))
+      → AllSteps A kept lines texts kept' → Stands kept before → (after : LineState)
+      × AllSteps B before lines texts after × Stands kept' after
   steps_follow kept kept' before [] [] h is = (before, refl, subst (λ k. Stands k before) (sym h) is)
   steps_follow kept kept' before [] (text ∷ texts) h is = absurd h
   steps_follow kept kept' before (line ∷ lines) [] h is = absurd h
@@ -24,7 +27,9 @@ module _ (Stands : Kept → LineState → Type 0) (A : Kept → List ℕ → Lis
       let rest = steps_follow h.0 kept' first.0 lines texts h.2 first.2 in
       (rest.0, (first.0, first.1, rest.1), rest.2)
 
-  answers_follow : {kept kept' : Kept} {before : LineState} {pieces : List (List ℕ)} {text : List ℕ} {refused : Bool} → Stands kept before → Answers A kept pieces text kept' refused → (after : LineState) × Answers B before pieces text after refused × Stands kept' after
+  answers_follow : {kept kept' : Kept} {before : LineState} {pieces : List (List ℕ)} {text : List ℕ} {refused : Bool}
+      → Stands kept before → Answers A kept pieces text kept' refused → (after : LineState)
+      × Answers B before pieces text after refused × Stands kept' after
   answers_follow {kept} {kept'} {before} {pieces} is a =
       let all = steps_follow kept kept' before (answered pieces) a.texts a.each is in
       (all.0, record { texts = a.texts; each = all.1; text_is = a.text_is; refused_is = a.refused_is }, all.2)
@@ -36,7 +41,17 @@ module _ (Stands : Kept → LineState → Type 0) (A : Kept → List ℕ → Lis
         record { ended = a.ended; line = a.line; after = answers.0; refused = a.refused; ends = a.ends; answers = answers.1 }
 
     keeps_up_follows : {given text : List ℕ} → KeepsUp A kept given text → KeepsUp B begin given text
-    keeps_up_follows a = record { before = a.before; piece = a.piece; front = a.front; rest = a.rest; given_is = a.given_is; short = a.short; stopped = after_follows a.stopped; text_is = a.text_is }
+    keeps_up_follows a = record {
+      before = a.before;
+      piece = a.piece;
+      front = a.front;
+      rest = a.rest;
+      given_is =
+          a.given_is;
+      short = a.short;
+      stopped = after_follows a.stopped;
+      text_is = a.text_is;
+    }
 
     pub all_follow :
         ((kept : Kept) (state : LineState) → Stands kept state → closing_of kept ≡ closing state)
@@ -44,12 +59,36 @@ module _ (Stands : Kept → LineState → Type 0) (A : Kept → List ℕ → Lis
         → AnswersAll A closing_of kept left left' taken taken' waits refused → AnswersAll B closing begin left left' taken taken' waits refused
     all_follow closes a =
         let answers = answers_follow is a.answers in
-        record { given = a.given; took = a.took; text = a.text; after = answers.0; source = a.source; nothing_left = a.nothing_left; fits = a.fits; sink = a.sink; keeps_up = keeps_up_follows a.keeps_up; answers = answers.1; closed = a.closed ∙ ap (λ l. a.text ++ l) (closes a.after answers.0 answers.2) }
+        record {
+          given = a.given;
+          took = a.took;
+          text = a.text;
+          after = answers.0;
+          source = a.source;
+          nothing_left =
+              a.nothing_left;
+          fits = a.fits;
+          sink = a.sink;
+          keeps_up = keeps_up_follows a.keeps_up;
+          answers =
+              answers.1;
+          closed = a.closed ∙ ap (λ l. a.text ++ l) (closes a.after answers.0 answers.2);
+        }
 
     within_follows : {input text : List ℕ} → StopsWithin A kept input text → StopsWithin B begin input text
     within_follows a =
         let answers = answers_follow is a.answers in
-        record { ended = a.ended; whole_text = a.whole_text; rest = a.rest; after = answers.0; refused = a.refused; begins = a.begins; answers = answers.1; text_begins = a.text_begins }
+        record {
+          ended = a.ended;
+          whole_text = a.whole_text;
+          rest = a.rest;
+          after = answers.0;
+          refused =
+              a.refused;
+          begins = a.begins;
+          answers = answers.1;
+          text_begins = a.text_begins;
+        }
 
     by_follows : (fault : Fault) (given text : List ℕ) → StopsBy A kept fault given text → StopsBy B begin fault given text
     by_follows Read given text h = (h.0, after_follows h.1)
@@ -57,8 +96,18 @@ module _ (Stands : Kept → LineState → Type 0) (A : Kept → List ℕ → Lis
     by_follows Memory given text h = within_follows h
     by_follows TooLong given text h = (h.0, after_follows h.1)
 
-    pub stops_follow : {left left' taken taken' : Option (List ℕ)} {waits : List ℕ} (fault : Fault) → Stops A kept fault left left' taken taken' waits → Stops B begin fault left left' taken taken' waits
-    stops_follow fault s = record { given = s.given; took = s.took; source = s.source; few = s.few; sink = s.sink; keeps_up = keeps_up_follows s.keeps_up; by = by_follows fault s.given _ s.by }
+    pub stops_follow : {left left' taken taken' : Option (List ℕ)} {waits : List ℕ} (fault : Fault)
+        → Stops A kept fault left left' taken taken' waits → Stops B begin fault left left' taken taken' waits
+    stops_follow fault s = record {
+      given = s.given;
+      took = s.took;
+      source = s.source;
+      few = s.few;
+      sink =
+          s.sink;
+      keeps_up = keeps_up_follows s.keeps_up;
+      by = by_follows fault s.given _ s.by;
+    }
 
 -- a command that keeps watchers alone
 abbrev pub Watches : Kept → LineState → Type 0
@@ -68,5 +117,6 @@ pub watches_close : (kept : Kept) (state : LineState) → Watches kept state →
 watches_close kept state is = ap reports is
 
 -- lines that are answered alone
-pub alone_follows : (A B : List ℕ → List ℕ → Type 0) → ((line answer : List ℕ) → A line answer → B line answer) → Follows Watches (AnswersAlone A) (AnswersAlone B)
+pub alone_follows : (A B : List ℕ → List ℕ → Type 0) → ((line answer : List ℕ) → A line answer → B line answer)
+    → Follows Watches (AnswersAlone A) (AnswersAlone B)
 alone_follows A B w kept line text kept' h before is = (before, (h.0, w line h.0 h.1, h.2, refl), ap (λ k. k.watchers) h.3 ∙ is)

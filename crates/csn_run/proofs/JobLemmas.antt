@@ -1,5 +1,6 @@
 -- How jobs are over.
-use Rattle.std.proofs.Common.{◌≡◌, ℕ, ◌+◌, ◌<◌, ◌≤◌, ◌⊎◌, Bool, inl, inr, List, [], ◌∷◌, ◌++◌, length, map, Option, Some, None, Result, Ok, Err, IfOk, IfErr, refl, sym, ◌∙◌, ap, subst, take, arith}
+use Rattle.std.proofs.Common.{◌≡◌, ℕ, ◌+◌, ◌<◌, ◌≤◌, ◌⊎◌, Bool, inl, inr, List, [], ◌∷◌, ◌++◌, length, map, Option}
+use Rattle.std.proofs.Common.{Some, None, Result, Ok, Err, IfOk, IfErr, refl, sym, ◌∙◌, ap, subst, take, arith}
 use Rattle.std.specs.List.{AllByRecursion}
 use Rattle.std.specs.Option.{option_map}
 use Rattle.std.proofs.lemmas.List.{length-take, map-append, take_all}
@@ -34,7 +35,8 @@ use Rattle.csn_lines.specs.LineState.{LineState, Kept, closing, closing_of}
 use Rattle.csn_lines.specs.Progress.{AnswersAll, Stops}
 use Rattle.csn_command.specs.declared.command.RuleCommand.{RuleCommand}
 use Rattle.csn_command.specs.declared.command.RuleReport.{RuleReport}
-use Rattle.csn_command.specs.Command.{IsReport, IsAnswer, IsMigrate, IsSegments, IsReplay, IsSoak, IsOverRule, over_downlink, over_all, over_soaked, leaves_report, leaves_soak}
+use Rattle.csn_command.specs.Command.{IsReport, IsAnswer, IsMigrate, IsSegments, IsReplay, IsSoak, IsOverRule}
+use Rattle.csn_command.specs.Command.{over_downlink, over_all, over_soaked, leaves_report, leaves_soak}
 use Rattle.csn_plan.specs.Compiled.{RuleOf, rule_of_entry, IsCompiled, HasNoPlan, no_rules, rules_refused, not_certified, IsReason, Tells, AreCompiled}
 use Rattle.csn_run.specs.Told.{soaked_line}
 use Rattle.csn_run.specs.Planned.{IsPlanned, IsWhy, Refuses}
@@ -42,16 +44,20 @@ use Rattle.csn_run.specs.Job.{IsDescription, IsWhole, IsBeforeLines, Asked, Ende
 use Rattle.csn_run.proofs.Following.{Follows, all_follow, stops_follow, Watches}
 use Rattle.csn_lines.specs.Jobs.{LineJob, by_rule, migrating, Steps, beginning, segmenting, replaying}
 use Rattle.csn_lines.specs.Ends.{end_of}
-use Rattle.csn_run.specs.Result.{asks_by_rule, asks_migrate, asks_segments, Compiles, of_file, of_catalogue, long_text, no_plan, no_job, Reports, reported, soaked, asks_replay}
+use Rattle.csn_run.specs.Result.{asks_by_rule, asks_migrate, asks_segments, Compiles, of_file, of_catalogue}
+use Rattle.csn_run.specs.Result.{long_text, no_plan, no_job, Reports, reported, soaked, asks_replay}
 use Rattle.csn_plan.specs.Compiled.{HasJob}
 
 -- ---- what the words ask for over told files
 
 -- a file of which so few bytes were asked for that more were left is longer
-pub long_file : (most : ℕ) (files : List ℕ → Option (List ℕ)) (file front : List ℕ) → BeginsFile (Some files) file (most + 1) front → most < length front → (text : List ℕ) × (files file ≡ Some text) × (most < length text)
+pub long_file : (most : ℕ) (files : List ℕ → Option (List ℕ)) (file front : List ℕ)
+    → BeginsFile (Some files) file (most + 1) front → most < length front → (text : List ℕ) × (files file ≡ Some text)
+    × (most < length text)
 long_file most files file front begins long = go (files file) refl begins
   where
-    go : (o : Option (List ℕ)) → files file ≡ o → option_map (take (most + 1)) o ≡ Some front → (text : List ℕ) × (files file ≡ Some text) × (most < length text)
+    go : (o : Option (List ℕ)) → files file ≡ o → option_map (take (most + 1)) o ≡ Some front → (text : List ℕ)
+        × (files file ≡ Some text) × (most < length text)
     go None is e = absurd (cc)
     go (Some text) is e =
         let same : take (most + 1) text ≡ front = cc in
@@ -75,9 +81,11 @@ pub asked_by_rule :
     → Asked words files watchers (by_rule command is.rules rule.name.now rule.reading)
 asked_by_rule words None watchers command rule d row is = tt
 asked_by_rule words (Some files) watchers command rule d row is =
-    asks_by_rule command rule.file.now rule.name.now is.text rule.reading is.rules d row (whole_file files rule.file.now is.text is.fetched) is.fetched.fits is.compiled refl
+    asks_by_rule command rule.file.now rule.name.now is.text rule.reading is.rules d row
+    (whole_file files rule.file.now is.text is.fetched) is.fetched.fits is.compiled refl
 
-pub asked_migrate : (words : List (List ℕ)) (files : Option (List ℕ → Option (List ℕ))) (watchers : List Watched) → IsMigrate words → Asked words files watchers migrating
+pub asked_migrate : (words : List (List ℕ)) (files : Option (List ℕ → Option (List ℕ))) (watchers : List Watched)
+    → IsMigrate words → Asked words files watchers migrating
 asked_migrate words None watchers row = tt
 asked_migrate words (Some files) watchers row = asks_migrate row refl
 
@@ -86,9 +94,11 @@ pub ended_reported :
     (words : List (List ℕ)) (files : Option (List ℕ → Option (List ℕ))) (report : RuleReport) (rule : RuleWords) (d : DescV) (written : List ℕ)
     → IsReport report words rule.file.now rule.name.now rule.reading → IsPlanned files rule d → Reports report d written
     → EndedBefore words files written Done
-ended_reported words None report rule d written row is told = inr (inl refl, λ reads. reads (leaves_report report rule.file.now rule.name.now rule.reading row))
+ended_reported words None report rule d written row is told =
+    inr (inl refl, λ reads. reads (leaves_report report rule.file.now rule.name.now rule.reading row))
 ended_reported words (Some files) report rule d written row is told =
-    reported report rule.file.now rule.name.now is.text rule.reading is.rules d row (whole_file files rule.file.now is.text is.fetched) is.fetched.fits is.compiled told refl
+    reported report rule.file.now rule.name.now is.text rule.reading is.rules d row
+    (whole_file files rule.file.now is.text is.fetched) is.fetched.fits is.compiled told refl
 
 -- the reason why a text gives no plan, with its line
 pub no_plan_of :
@@ -112,13 +122,15 @@ tells_before (Plan no_memory_for_plan) line ended tells = absurd tells
 
 -- what is compiled of a file that is there
 file_compiles :
-    (words : List (List ℕ)) (files : List ℕ → Option (List ℕ)) (file name text : List ℕ) (reading : Reading) → IsOverRule words file name reading → files file ≡ Some text
+    (words : List (List ℕ)) (files : List ℕ → Option (List ℕ)) (file name text : List ℕ) (reading : Reading)
+    → IsOverRule words file name reading → files file ≡ Some text
     → Compiles words files (record { text = text; name = name; reading = reading } ∷ [])
 file_compiles words files file name text reading row held = of_file file name text reading row held refl
 
 -- a text that gives its rule no plan, behind others that give one
 ended_by_text :
-    (words : List (List ℕ)) (files : Option (List ℕ → Option (List ℕ))) (front : List RuleOf) (rule : RuleOf) (behind : List RuleOf) (written : List ℕ) (reason : NoPlan) (line : List ℕ) (ended : Ended)
+    (words : List (List ℕ)) (files : Option (List ℕ → Option (List ℕ))) (front : List RuleOf) (rule : RuleOf)
+    (behind : List RuleOf) (written : List ℕ) (reason : NoPlan) (line : List ℕ) (ended : Ended)
     → ((told : List ℕ → Option (List ℕ)) → files ≡ Some told → Compiles words told (front ++ rule ∷ behind)) → AllByRecursion HasJob front
     → length rule.text ≤ MOST_DESCRIPTION → IsReason rule.text rule.name rule.reading reason → Tells reason line ended
     → written ≡ line ++ 10 ∷ [] → EndedBefore words files written ended
@@ -128,13 +140,16 @@ ended_by_text words (Some files) front rule behind written reason line ended com
 
 -- the job is over before it has a plan, by the text of a rule
 pub reason_ends :
-    (words : List (List ℕ)) (files : Option (List ℕ → Option (List ℕ))) (watchers : List Watched) (front : List RuleOf) (rule : RuleOf) (behind : List RuleOf) (left taken : Option (List ℕ)) (waits : List ℕ) (reason : NoPlan) (end : Result Ended Fault)
+    (words : List (List ℕ)) (files : Option (List ℕ → Option (List ℕ))) (watchers : List Watched)
+    (front : List RuleOf) (rule : RuleOf) (behind : List RuleOf) (left taken : Option (List ℕ)) (waits : List ℕ)
+    (reason : NoPlan) (end : Result Ended Fault)
     → ((told : List ℕ → Option (List ℕ)) → files ≡ Some told → Compiles words told (front ++ rule ∷ behind)) → AllByRecursion HasJob front
     → length rule.text ≤ MOST_DESCRIPTION → IsReason rule.text rule.name rule.reading reason → Refuses (Text reason) waits end
     → JobEnds words files watchers left left taken taken waits end
 reason_ends words files watchers front rule behind left taken waits reason (Ok ended) compiles before fits is refuses =
     before_lines (ended_by_text words files front rule behind waits reason refuses.0 ended compiles before fits is refuses.2 refuses.1) refl refl
-reason_ends words files watchers front rule behind left taken waits reason (Err fault) compiles before fits is refuses = unread refl refl refuses.1 (inr (ap Err refuses.0))
+reason_ends words files watchers front rule behind left taken waits reason (Err fault)
+    compiles before fits is refuses = unread refl refl refuses.1 (inr (ap Err refuses.0))
 
 module _ (words : List (List ℕ)) (rule : RuleWords) (row : IsOverRule words rule.file.now rule.name.now rule.reading) where
   ended_by_length :
@@ -143,11 +158,14 @@ module _ (words : List (List ℕ)) (rule : RuleWords) (row : IsOverRule words ru
   ended_by_length None front written none begins long = inl (inr (inr refl))
   ended_by_length (Some files) front written none begins long =
       let text = long_file MOST_DESCRIPTION files rule.file.now front begins long in
-      no_job [] (record { text = text.0; name = rule.name.now; reading = rule.reading }) [] (file_compiles words files rule.file.now rule.name.now text.0 rule.reading row text.1) tt (long_text text.2 none refl)
+      no_job [] (record { text = text.0; name = rule.name.now; reading = rule.reading }) []
+      (file_compiles words files rule.file.now rule.name.now text.0 rule.reading row text.1) tt
+      (long_text text.2 none refl)
 
   -- the job is over before it has a plan
   pub refused_ends :
-      (files : Option (List ℕ → Option (List ℕ))) (watchers : List Watched) (left taken : Option (List ℕ)) (waits : List ℕ) (why : Unplanned) (end : Result Ended Fault)
+      (files : Option (List ℕ → Option (List ℕ))) (watchers : List Watched) (left taken : Option (List ℕ))
+      (waits : List ℕ) (why : Unplanned) (end : Result Ended Fault)
       → IsWhy files rule why → Refuses why waits end → JobEnds words files watchers left left taken taken waits end
   refused_ends files watchers left taken waits (File fault) end is refuses = by_fault fault is refuses
     where
@@ -163,19 +181,24 @@ module _ (words : List (List ℕ)) (rule : RuleWords) (row : IsOverRule words ru
           subst P (sym refuses.0) (before_lines (ended_by_length files long.0 waits refuses.1 long.1 long.2) refl refl)
   refused_ends files watchers left taken waits (Text reason) end is refuses =
       reason_ends words files watchers [] (record { text = is.0; name = rule.name.now; reading = rule.reading }) [] left taken waits reason end
-      (λ told e. file_compiles words told rule.file.now rule.name.now is.0 rule.reading row (whole_file told rule.file.now is.0 (subst (λ (f : Option (List ℕ → Option (List ℕ))). IsDescription f rule.file.now is.0) e is.1)))
+      (λ told e. file_compiles words told rule.file.now rule.name.now is.0 rule.reading row
+      (whole_file told rule.file.now is.0
+      (subst (λ (f : Option (List ℕ → Option (List ℕ))). IsDescription f rule.file.now is.0) e is.1)))
       tt is.1.fits is.2 refuses
 
 -- what `segments` compiles
-pub segments_compile : (words : List (List ℕ)) (files : List ℕ → Option (List ℕ)) (reading : Reading) → IsSegments words reading → Compiles words files (rule_of_entry reading Downlink ∷ [])
+pub segments_compile : (words : List (List ℕ)) (files : List ℕ → Option (List ℕ)) (reading : Reading)
+    → IsSegments words reading → Compiles words files (rule_of_entry reading Downlink ∷ [])
 segments_compile words files reading row = of_catalogue (Downlink ∷ []) reading (over_downlink row refl) refl
 
 -- what `soak` compiles
-pub soak_compiles : (words : List (List ℕ)) (files : List ℕ → Option (List ℕ)) (entry : Entry) (n : ℕ) → IsSoak words entry n → Compiles words files (rule_of_entry Sent entry ∷ [])
+pub soak_compiles : (words : List (List ℕ)) (files : List ℕ → Option (List ℕ)) (entry : Entry) (n : ℕ)
+    → IsSoak words entry n → Compiles words files (rule_of_entry Sent entry ∷ [])
 soak_compiles words files entry n row = of_catalogue (entry ∷ []) Sent (over_soaked entry n row refl refl) refl
 
 pub asked_segments :
-    (words : List (List ℕ)) (files : Option (List ℕ → Option (List ℕ))) (watchers : List Watched) (reading : Reading) (rules : RulesV) (d : DescV) → IsSegments words reading
+    (words : List (List ℕ)) (files : Option (List ℕ → Option (List ℕ))) (watchers : List Watched) (reading : Reading)
+    (rules : RulesV) (d : DescV) → IsSegments words reading
     → length catalogue_text ≤ MOST_DESCRIPTION → IsCompiled catalogue_text (entry_root Downlink) reading rules d
     → Asked words files watchers (segmenting rules reading)
 asked_segments words None watchers reading rules d row fits is = tt
@@ -205,16 +228,20 @@ pub replay_compiles :
     → IsReplay words reading → all_entries ≡ front ++ entry ∷ behind
     → Compiles words files (map (rule_of_entry reading) front ++ rule_of_entry reading entry ∷ map (rule_of_entry reading) behind)
 replay_compiles words files reading front entry behind row split =
-    of_catalogue all_entries reading (over_all row refl) (sym (map-append (rule_of_entry reading) front (entry ∷ behind)) ∙ ap (map (rule_of_entry reading)) (sym split))
+    of_catalogue all_entries reading (over_all row refl)
+    (sym (map-append (rule_of_entry reading) front (entry ∷ behind)) ∙ ap (map (rule_of_entry reading))
+    (sym split))
 
 pub asked_replay :
-    (words : List (List ℕ)) (files : Option (List ℕ → Option (List ℕ))) (watchers : List Watched) (reading : Reading) (rules : RulesV) (plans : List DescV) → IsReplay words reading
+    (words : List (List ℕ)) (files : Option (List ℕ → Option (List ℕ))) (watchers : List Watched) (reading : Reading)
+    (rules : RulesV) (plans : List DescV) → IsReplay words reading
     → length catalogue_text ≤ MOST_DESCRIPTION → AreCompiled rules reading all_entries plans
     → Asked words files watchers (replaying rules reading watchers)
 asked_replay words None watchers reading rules plans row fits are = tt
 asked_replay words (Some files) watchers reading rules plans row fits are = asks_replay reading rules plans row fits are refl
 
-pub replays_follow : (plans : List DescV) (rules : RulesV) (reading : Reading) → AreCompiled rules reading all_entries plans → Follows Watches (ReplaysBy plans) (Replays rules reading)
+pub replays_follow : (plans : List DescV) (rules : RulesV) (reading : Reading)
+    → AreCompiled rules reading all_entries plans → Follows Watches (ReplaysBy plans) (Replays rules reading)
 replays_follow plans rules reading compiled kept line text kept' h before is = (
   record { blocks = before.blocks; watchers = kept'.watchers },
   (h.0, h.1, h.2 rules reading compiled, subst (λ w. TellsWatchers h.0 h.1 w text kept'.watchers) is h.3, refl),
@@ -225,16 +252,26 @@ replays_follow plans rules reading compiled kept line text kept' h before is = (
 
 -- the job is over with its lines
 pub lines_end :
-    (Stands : Kept → LineState → Type 0) (A : Kept → List ℕ → List ℕ → Kept → Type 0) (kept : Kept) (words : List (List ℕ)) (files : Option (List ℕ → Option (List ℕ))) (watchers : List Watched) (job : LineJob) (left left' taken taken' : Option (List ℕ)) (waits : List ℕ) (refused : Bool) (end : Result Ended Fault)
-    → Asked words files watchers job → Follows Stands A (Steps job) → ((kept : Kept) (state : LineState) → Stands kept state → closing_of kept ≡ closing state) → Stands kept (beginning job)
+    (Stands : Kept → LineState → Type 0) (A : Kept → List ℕ → List ℕ → Kept → Type 0) (kept : Kept)
+    (words : List (List ℕ)) (files : Option (List ℕ → Option (List ℕ))) (watchers : List Watched) (job : LineJob)
+    (left left' taken taken' : Option (List ℕ)) (waits : List ℕ) (refused : Bool) (end : Result Ended Fault)
+    → Asked words files watchers job → Follows Stands A (Steps job)
+    → ((kept : Kept) (state : LineState) → Stands kept state → closing_of kept ≡ closing state)
+    → Stands kept (beginning job)
     → IfOk end (λ ended. AnswersAll A closing_of kept left left' taken taken' waits refused × (ended ≡ end_of refused))
     → IfErr end (λ fault. Stops A kept fault left left' taken taken' waits) → JobEnds words files watchers left left' taken taken' waits end
-lines_end Stands A kept words files watchers job left left' taken taken' waits refused (Ok ended) asked follows closes is ok err = all_lines job refused asked (all_follow Stands A (Steps job) follows kept (beginning job) is closes ok.0) (ap Ok ok.1)
-lines_end Stands A kept words files watchers job left left' taken taken' waits refused (Err fault) asked follows closes is ok err = some_lines job fault asked (stops_follow Stands A (Steps job) follows kept (beginning job) is fault err) refl
+lines_end Stands A kept words files watchers job left left' taken taken' waits refused (Ok ended)
+    asked follows closes is ok err = all_lines job refused asked (all_follow Stands A (Steps job) follows kept
+    (beginning job) is closes ok.0) (ap Ok ok.1)
+lines_end Stands A kept words files watchers job left left' taken taken' waits refused (Err fault)
+    asked follows closes is ok err = some_lines job fault asked (stops_follow Stands A (Steps job) follows kept
+    (beginning job) is fault err) refl
 
 -- the job of a report is over by a plan
 pub report_ends :
-    (words : List (List ℕ)) (files : Option (List ℕ → Option (List ℕ))) (watchers : List Watched) (report : RuleReport) (rule : RuleWords) (d : DescV) (left taken : Option (List ℕ)) (waits : List ℕ) (end : Result Ended Fault)
+    (words : List (List ℕ)) (files : Option (List ℕ → Option (List ℕ))) (watchers : List Watched)
+    (report : RuleReport) (rule : RuleWords) (d : DescV) (left taken : Option (List ℕ)) (waits : List ℕ)
+    (end : Result Ended Fault)
     → IsReport report words rule.file.now rule.name.now rule.reading → IsPlanned files rule d
     → IfOk end (λ ended. (ended ≡ Done) × Reports report d waits) → IfErr end (λ fault. (fault ≡ Memory) × (waits ≡ []))
     → JobEnds words files watchers left left taken taken waits end
@@ -245,7 +282,9 @@ report_ends words files watchers report rule d left taken waits (Err fault) row 
 
 -- the job of `soak` is over with its counts
 pub soak_ends :
-    (words : List (List ℕ)) (files : Option (List ℕ → Option (List ℕ))) (watchers : List Watched) (entry : Entry) (n : ℕ) (rules : RulesV) (d : DescV) (counts : Soaked) (left taken : Option (List ℕ)) (waits : List ℕ) (end : Result Ended Fault)
+    (words : List (List ℕ)) (files : Option (List ℕ → Option (List ℕ))) (watchers : List Watched) (entry : Entry)
+    (n : ℕ) (rules : RulesV) (d : DescV) (counts : Soaked) (left taken : Option (List ℕ)) (waits : List ℕ)
+    (end : Result Ended Fault)
     → IsSoak words entry n → length catalogue_text ≤ MOST_DESCRIPTION → IsCompiled catalogue_text (entry_root entry) Sent rules d → IsSoaked d entry n counts
     → IfOk end (λ ended. (ended ≡ Done) × (waits ≡ soaked_line n counts ++ 10 ∷ [])) → IfErr end (λ fault. (fault ≡ Memory) × (waits ≡ []))
     → JobEnds words files watchers left left taken taken waits end
@@ -286,7 +325,8 @@ refused_missing {T} result why waits end is refuses (inr e) =
     let r = subst P same refuses in (inr r.0, r.1)
 
 -- a job that could not read its file has met a fault of the shelf
-pub refused_by_file : {T : Type 0} (result : Result T Unplanned) (why : Unplanned) (waits : List ℕ) (end : Result Ended Fault) → result ≡ Err why → Refuses why waits end → result ≡ Err (File Read) → end ≡ Err Read
+pub refused_by_file : {T : Type 0} (result : Result T Unplanned) (why : Unplanned) (waits : List ℕ)
+    (end : Result Ended Fault) → result ≡ Err why → Refuses why waits end → result ≡ Err (File Read) → end ≡ Err Read
 refused_by_file {T} result why waits end is refuses e =
     let same : why ≡ File Read = cc in
     let P : Unplanned → Type 0 = λ w. Refuses w waits end in

@@ -42,8 +42,10 @@ not_before A false (Ok ended) ok (inr e) = let is : ended ≡ Done = ok.1 in cc
 
 -- a job that comes to its lines
 pub streams_of_lines :
-    {Source : Type 0} {end : Result Ended Fault} {source source' : Source} {comes : Type 0} {steady steady' sink_steady sink_steady' : Type 0} {faults faults' sink_faults sink_faults' : ℕ}
-    → comes → (A : Type 0) (refused : Bool) → IfOk end (λ ended. A × (ended ≡ end_of refused)) → BlamesStreams end steady steady' faults faults' sink_steady sink_steady' sink_faults sink_faults'
+    {Source : Type 0} {end : Result Ended Fault} {source source' : Source} {comes : Type 0}
+    {steady steady' sink_steady sink_steady' : Type 0} {faults faults' sink_faults sink_faults' : ℕ}
+    → comes → (A : Type 0) (refused : Bool) → IfOk end (λ ended. A × (ended ≡ end_of refused))
+    → BlamesStreams end steady steady' faults faults' sink_steady sink_steady' sink_faults sink_faults'
     → LeavesStreams end source source' comes steady steady' faults faults' sink_steady sink_steady' sink_faults sink_faults'
 streams_of_lines {end = end} comes A refused ok blames = record {
   touches = inr comes;
@@ -55,7 +57,8 @@ streams_of_lines {end = end} comes A refused ok blames = record {
 
 -- a job within another
 pub streams_within :
-    {Source : Type 0} {end : Result Ended Fault} {source source' : Source} {comes others : Type 0} {steady steady' sink_steady sink_steady' : Type 0} {faults faults' sink_faults sink_faults' : ℕ}
+    {Source : Type 0} {end : Result Ended Fault} {source source' : Source} {comes others : Type 0}
+    {steady steady' sink_steady sink_steady' : Type 0} {faults faults' sink_faults sink_faults' : ℕ}
     → (comes → others) → LeavesStreams end source source' comes steady steady' faults faults' sink_steady sink_steady' sink_faults sink_faults'
     → LeavesStreams end source source' others steady steady' faults faults' sink_steady sink_steady' sink_faults sink_faults'
 streams_within within streams = record {
@@ -88,7 +91,8 @@ module _ (reason : NoPlan) (waits : List ℕ) where
 
 -- words of three or fewer ask for no file
 pub asks_none :
-    {Shelf : Type 0} {words : List (List ℕ)} {gives : Shelf → List ℕ → Result (Vec ℕ Global) ShelfFault → Shelf → Type 0} {files : Option (List ℕ → Option (List ℕ))} {shelf : Shelf} {lacking : Type 0}
+    {Shelf : Type 0} {words : List (List ℕ)} {gives : Shelf → List ℕ → Result (Vec ℕ Global) ShelfFault → Shelf
+    → Type 0} {files : Option (List ℕ → Option (List ℕ))} {shelf : Shelf} {lacking : Type 0}
     → length words ≤ 3 → AsksFiles words gives files shelf shelf lacking
 asks_none {words = words} {files = files} few = record {
   no_file = λ none. refl;
@@ -98,8 +102,11 @@ asks_none {words = words} {files = files} few = record {
 
 -- words that name these files ask for the first, and then perhaps for the next
 pub asks_named :
-    {Shelf : Type 0} {words : List (List ℕ)} {file : List ℕ} {others : List (List ℕ)} {lacking : Type 0} (gives : Shelf → List ℕ → Result (Vec ℕ Global) ShelfFault → Shelf → Type 0) (files : Option (List ℕ → Option (List ℕ))) (shelf shelf' : Shelf)
-    → NamesFiles words (file ∷ others) → ((names : List (List ℕ)) → NamesFiles words names → names ≡ file ∷ others) → LeftByFetches gives (file ∷ others) shelf shelf'
+    {Shelf : Type 0} {words : List (List ℕ)} {file : List ℕ} {others : List (List ℕ)} {lacking : Type 0}
+    (gives : Shelf → List ℕ → Result (Vec ℕ Global) ShelfFault → Shelf → Type 0)
+    (files : Option (List ℕ → Option (List ℕ))) (shelf shelf' : Shelf)
+    → NamesFiles words (file ∷ others) → ((names : List (List ℕ)) → NamesFiles words names → names ≡ file ∷ others)
+    → LeftByFetches gives (file ∷ others) shelf shelf'
     → ((other : List ℕ) → ComesTo words files other → LacksFile files other → lacking) → AsksFiles words gives files shelf shelf' lacking
 asks_named {file = file} {others = others} gives files shelf shelf' named alone fetched missing = record {
   no_file = λ none. absurd (none file ([], others, named));
@@ -107,7 +114,8 @@ asks_named {file = file} {others = others} gives files shelf shelf' named alone 
   missing = missing;
 }
 
-module _ {Shelf : Type 0} {words : List (List ℕ)} {lacking : Type 0} (gives : Shelf → List ℕ → Result (Vec ℕ Global) ShelfFault → Shelf → Type 0) (files : Option (List ℕ → Option (List ℕ))) (shelf shelf' : Shelf) where
+module _ {Shelf : Type 0} {words : List (List ℕ)} {lacking : Type 0} (gives : Shelf → List ℕ → Result (Vec ℕ Global)
+    ShelfFault → Shelf → Type 0) (files : Option (List ℕ → Option (List ℕ))) (shelf shelf' : Shelf) where
   -- words that name a rule ask for its file alone
   pub asks_one :
       {file name : List ℕ} {reading : Reading} → IsOverRule words file name reading → LeftByFetch (gives shelf file) shelf'
@@ -125,7 +133,8 @@ module _ {Shelf : Type 0} {words : List (List ℕ)} {lacking : Type 0} (gives : 
 
   -- and those of `verify` for the description and the certificate
   pub asks_certificate :
-      {file name certificate : List ℕ} {reading : Reading} → IsVerify words file name reading certificate → LeftByFetches gives (file ∷ certificate ∷ []) shelf shelf'
+      {file name certificate : List ℕ} {reading : Reading} → IsVerify words file name reading certificate
+      → LeftByFetches gives (file ∷ certificate ∷ []) shelf shelf'
       → ((other : List ℕ) → ComesTo words files other → LacksFile files other → lacking) → AsksFiles words gives files shelf shelf' lacking
   asks_certificate {file = file} {name = name} {certificate = certificate} {reading = reading} row =
       asks_named gives files shelf shelf' (names_certificate file name reading certificate row refl) (λ names named. verify_files row named)

@@ -23,8 +23,11 @@ one_end bytes line other ended others a b = (last_apart ended others line other 
 abbrev pub Written : List ℕ → Ended → List ℕ → Ended → Type 0
 Written w e v f = (w ≡ v) × (e ≡ f)
 
-module _ (job : LineJob) (one : (before : LineState) (line text other : List ℕ) (after end : LineState) → Steps job before line text after → Steps job before line other end → (text ≡ other) × (after ≡ end)) where
-  one_each : (before after end : LineState) (found texts others : List (List ℕ)) → AllSteps (Steps job) before found texts after → AllSteps (Steps job) before found others end → (texts ≡ others) × (after ≡ end)
+module _ (job : LineJob) (one : (before : LineState) (line text other : List ℕ) (after end : LineState)
+    → Steps job before line text after → Steps job before line other end → (text ≡ other) × (after ≡ end)) where
+  one_each : (before after end : LineState) (found texts others : List (List ℕ))
+      → AllSteps (Steps job) before found texts after → AllSteps (Steps job) before found others end
+      → (texts ≡ others) × (after ≡ end)
   one_each before after end [] [] [] h k = (refl, h ∙ sym k)
   one_each before after end [] [] (b ∷ others) h k = absurd k
   one_each before after end [] (a ∷ texts) others h k = absurd h
@@ -61,5 +64,6 @@ module _ (job : LineJob) (one : (before : LineState) (line text other : List ℕ
   one_input input w v e f (answers_front found line after refused long ends a is) (answers_all text after' refused' fits' b closed is') = absurd (omega arith)
   one_input input w v e f (answers_front found line after refused long ends a is) (answers_front found' line' after' refused' long' ends' b is') =
       let pieces : found ≡ found' = one_end (take MOST_INPUT input) line line' found found' ends ends' in
-      let same = one_text (beginning job) after after' found' w v refused refused' (subst (λ (p : List (List ℕ)). Answers (Steps job) (beginning job) p w after refused) pieces a) b in
+      let same = one_text (beginning job) after after' found' w v refused refused'
+      (subst (λ (p : List (List ℕ)). Answers (Steps job) (beginning job) p w after refused) pieces a) b in
       (same.text_is, is ∙ sym is')

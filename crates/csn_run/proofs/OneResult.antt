@@ -28,11 +28,17 @@ use Rattle.csn_plan.specs.declared.ended.Ended.{Ended}
 use Rattle.csn_plan.specs.declared.ended.Ended.TheVariants.{NotCertified}
 use Rattle.csn_plan.specs.declared.compiling.TheConstants.{MOST_DESCRIPTION}
 use Rattle.csn_run.specs.Known.{KnownOfTexts}
-use Rattle.csn_command.specs.Command.{word_of, command_word, report_word, NamesRule, NamesReading, IsReport, IsAnswer, IsMigrate, IsSegments, IsReplay, IsSoak, IsCompat, IsVerify, IsOverRule, IsOverEntries, over_downlink, over_all, over_soaked}
+use Rattle.csn_command.specs.Command.{word_of, command_word, report_word, NamesRule, NamesReading, IsReport, IsAnswer}
+use Rattle.csn_command.specs.Command.{IsMigrate, IsSegments, IsReplay, IsSoak, IsCompat, IsVerify, IsOverRule}
+use Rattle.csn_command.specs.Command.{IsOverEntries, over_downlink, over_all, over_soaked}
 use Rattle.csn_plan.specs.Compiled.{RuleOf, rule_of_entry, line_of, conflict_line, AreCompiled, IsCompiled, HasNoPlan, no_rules, rules_refused, not_certified}
 use Rattle.csn_run.specs.Told.{soaked_line, Compares, compares_ok, compares_no, Verifies, verifies_good, verifies_fault, verifies_none}
 use Rattle.csn_lines.specs.Jobs.{LineJob, by_rule, segmenting, replaying}
-use Rattle.csn_run.specs.Result.{AsksFor, asks_by_rule, asks_migrate, asks_segments, asks_replay, AnswersInput, Compiles, of_file, of_catalogue, of_pair, HasNoJob, long_text, no_plan, Reports, EndsPair, long_before, long_after, compared, IsDescribed, EndsVerify, no_description, long_certificate, verified, EndsBefore, no_job, reported, soaked, of_two, of_certificate, no_line, lines}
+use Rattle.csn_run.specs.Result.{AsksFor, asks_by_rule, asks_migrate, asks_segments, asks_replay, AnswersInput}
+use Rattle.csn_run.specs.Result.{Compiles, of_file, of_catalogue, of_pair, HasNoJob, long_text, no_plan, Reports}
+use Rattle.csn_run.specs.Result.{EndsPair, long_before, long_after, compared, IsDescribed, EndsVerify, no_description}
+use Rattle.csn_run.specs.Result.{long_certificate, verified, EndsBefore, no_job, reported, soaked, of_two}
+use Rattle.csn_run.specs.Result.{of_certificate, no_line, lines}
 use Rattle.csn_plan.specs.Compiled.{HasJob}
 use Rattle.csn_run.specs.Laws.{LinesHaveOneAnswer, RunsHaveOneResult}
 use Rattle.csn_soak.specs.Soaking.{IsSoaked}
@@ -83,7 +89,8 @@ over (inl report) = record { command = report_word report.0; row = report.1 }
 over (inr answer) = record { command = command_word answer.0; row = answer.1 }
 
 -- a command that answers lines by a rule
-pub answers : {words : List (List ℕ)} {file name : List ℕ} {reading : Reading} (command : RuleCommand) → IsAnswer command words file name reading → OverRule words file name reading
+pub answers : {words : List (List ℕ)} {file name : List ℕ} {reading : Reading} (command : RuleCommand)
+    → IsAnswer command words file name reading → OverRule words file name reading
 answers command row = record { command = command_word command; row = row }
 
 -- the command whose word begins with a letter
@@ -115,7 +122,9 @@ no_report (Show Json) first = omega (arith, first)
 no_report (Write Text) first = omega (arith, first)
 no_report (Write Json) first = omega (arith, first)
 
-pub not_both : {words : List (List ℕ)} {file name file' name' : List ℕ} {reading reading' : Reading} (report : RuleReport) (command : RuleCommand) → IsReport report words file name reading → IsAnswer command words file' name' reading' → ⊥
+pub not_both : {words : List (List ℕ)} {file name file' name' : List ℕ} {reading reading' : Reading}
+    (report : RuleReport) (command : RuleCommand) → IsReport report words file name reading
+    → IsAnswer command words file' name' reading' → ⊥
 not_both report command row row' = no_report command (ap (λ w. slice_index w 0) (sym (one_rule row row').word_is) ∙ reports_begin report)
 
 pub not_migrate : {words : List (List ℕ)} {file name : List ℕ} {reading : Reading} → OverRule words file name reading → IsMigrate words → ⊥
@@ -123,17 +132,20 @@ not_migrate {words} {file} {name} {reading} rule is =
     let all : rule.command ∷ file ∷ name ∷ word_of reading ∷ [] ≡ codes "migrate" ∷ [] = sym rule.row.words_are ∙ is in cc
 
 -- words of four are none of two
-pub not_two : {words : List (List ℕ)} {file name first second : List ℕ} {reading : Reading} → OverRule words file name reading → words ≡ first ∷ second ∷ [] → ⊥
+pub not_two : {words : List (List ℕ)} {file name first second : List ℕ} {reading : Reading}
+    → OverRule words file name reading → words ≡ first ∷ second ∷ [] → ⊥
 not_two {words} {file} {name} {first} {second} {reading} rule is =
     let all : rule.command ∷ file ∷ name ∷ word_of reading ∷ [] ≡ first ∷ second ∷ [] = sym rule.row.words_are ∙ is in cc
 
 -- nor of three
-pub not_three : {words : List (List ℕ)} {file name first second third : List ℕ} {reading : Reading} → OverRule words file name reading → words ≡ first ∷ second ∷ third ∷ [] → ⊥
+pub not_three : {words : List (List ℕ)} {file name first second third : List ℕ} {reading : Reading}
+    → OverRule words file name reading → words ≡ first ∷ second ∷ third ∷ [] → ⊥
 not_three {words} {file} {name} {first} {second} {third} {reading} rule is =
     let all : rule.command ∷ file ∷ name ∷ word_of reading ∷ [] ≡ first ∷ second ∷ third ∷ [] = sym rule.row.words_are ∙ is in cc
 
 -- nor of five
-pub not_five : {words : List (List ℕ)} {file name first second third fourth fifth : List ℕ} {reading : Reading} → OverRule words file name reading → words ≡ first ∷ second ∷ third ∷ fourth ∷ fifth ∷ [] → ⊥
+pub not_five : {words : List (List ℕ)} {file name first second third fourth fifth : List ℕ} {reading : Reading}
+    → OverRule words file name reading → words ≡ first ∷ second ∷ third ∷ fourth ∷ fifth ∷ [] → ⊥
 not_five rule is = omega (arith, ap length rule.row.words_are, ap length is)
 
 pub two_not_three : {words : List (List ℕ)} {one other first second third : List ℕ} → words ≡ one ∷ other ∷ [] → words ≡ first ∷ second ∷ third ∷ [] → ⊥
@@ -154,7 +166,8 @@ pub one_pair :
     → IsCompat words before after name reading → IsCompat words before' after' name' reading'
     → OneRow after after' before before' name name' reading reading'
 one_pair {words} {before} {before'} {after} {after'} {name} {name'} {reading} {reading'} row row' =
-    let all : codes "compat" ∷ before ∷ after ∷ name ∷ word_of reading ∷ [] ≡ codes "compat" ∷ before' ∷ after' ∷ name' ∷ word_of reading' ∷ [] = sym row.words_are ∙ row'.words_are in
+    let all : codes "compat" ∷ before ∷ after ∷ name ∷ word_of reading ∷ [] ≡ codes "compat" ∷ before' ∷ after'
+    ∷ name' ∷ word_of reading' ∷ [] = sym row.words_are ∙ row'.words_are in
     let read : word_of reading ≡ word_of reading' = cc in
     record { word_is = cc; file_is = cc; name_is = cc; reading_is = one_reading_word reading reading' read }
 
@@ -164,20 +177,25 @@ pub one_verify :
     → IsVerify words file name reading certificate → IsVerify words file' name' reading' certificate'
     → OneRow certificate certificate' file file' name name' reading reading'
 one_verify {words} {file} {file'} {name} {name'} {certificate} {certificate'} {reading} {reading'} row row' =
-    let all : codes "verify" ∷ file ∷ name ∷ word_of reading ∷ certificate ∷ [] ≡ codes "verify" ∷ file' ∷ name' ∷ word_of reading' ∷ certificate' ∷ [] = sym row.words_are ∙ row'.words_are in
+    let all : codes "verify" ∷ file ∷ name ∷ word_of reading ∷ certificate ∷ [] ≡ codes "verify" ∷ file' ∷ name'
+    ∷ word_of reading' ∷ certificate' ∷ [] = sym row.words_are ∙ row'.words_are in
     let read : word_of reading ≡ word_of reading' = cc in
     record { file_is = cc; name_is = cc; reading_is = one_reading_word reading reading' read; word_is = cc }
 
 -- they are none of `compat`
-pub not_compat : {words : List (List ℕ)} {before after name file name' certificate : List ℕ} {reading reading' : Reading} → IsCompat words before after name reading → IsVerify words file name' reading' certificate → ⊥
+pub not_compat : {words : List (List ℕ)} {before after name file name' certificate : List ℕ}
+    {reading reading' : Reading} → IsCompat words before after name reading
+    → IsVerify words file name' reading' certificate → ⊥
 not_compat {words} {before} {after} {name} {file} {name'} {certificate} {reading} {reading'} row row' =
-    let all : codes "compat" ∷ before ∷ after ∷ name ∷ word_of reading ∷ [] ≡ codes "verify" ∷ file ∷ name' ∷ word_of reading' ∷ certificate ∷ [] = sym row.words_are ∙ row'.words_are in
+    let all : codes "compat" ∷ before ∷ after ∷ name ∷ word_of reading ∷ [] ≡ codes "verify" ∷ file ∷ name' ∷ word_of
+    reading' ∷ certificate ∷ [] = sym row.words_are ∙ row'.words_are in
     let same : codes "compat" ≡ codes "verify" = cc in
     let first : 99 ≡ 118 = ap (λ w. slice_index w 0) same in
     omega (arith, first)
 
 -- words of two name one reading
-pub same_reading : {words : List (List ℕ)} {command other : List ℕ} {reading reading' : Reading} → NamesReading command words reading → NamesReading other words reading' → reading ≡ reading'
+pub same_reading : {words : List (List ℕ)} {command other : List ℕ} {reading reading' : Reading}
+    → NamesReading command words reading → NamesReading other words reading' → reading ≡ reading'
 same_reading {words} {command} {other} {reading} {reading'} is is' =
     let all : command ∷ word_of reading ∷ [] ≡ other ∷ word_of reading' ∷ [] = sym is ∙ is' in
     let read : word_of reading ≡ word_of reading' = cc in one_reading_word reading reading' read
@@ -194,7 +212,8 @@ not_segments_and_replay {words} reading reading' is is' =
 abbrev pub rule_of : List ℕ → List ℕ → Reading → RuleOf
 rule_of text name reading = record { text = text; name = name; reading = reading }
 
-same_rule : {text text' name name' : List ℕ} {reading reading' : Reading} → text ≡ text' → name ≡ name' → reading ≡ reading' → rule_of text name reading ≡ rule_of text' name' reading'
+same_rule : {text text' name name' : List ℕ} {reading reading' : Reading}
+    → text ≡ text' → name ≡ name' → reading ≡ reading' → rule_of text name reading ≡ rule_of text' name' reading'
 same_rule {text} {text'} {name} {name'} {reading} {reading'} texts names readings =
     ap (λ t. rule_of t name reading) texts ∙ ap (λ n. rule_of text' n reading) names ∙ ap (λ r. rule_of text' name' r) readings
 
@@ -209,7 +228,8 @@ rest_of : {rule other : RuleOf} {rest others : List RuleOf} → rule ∷ rest �
 rest_of e = cc
 
 -- a command over a rule is none over entries
-not_entries : {words : List (List ℕ)} {file name : List ℕ} {reading reading' : Reading} {entries : List Entry} → OverRule words file name reading → IsOverEntries words entries reading' → ⊥
+not_entries : {words : List (List ℕ)} {file name : List ℕ} {reading reading' : Reading} {entries : List Entry}
+    → OverRule words file name reading → IsOverEntries words entries reading' → ⊥
 not_entries rule (over_downlink row is) = not_two rule row
 not_entries rule (over_all row is) = not_two rule row
 not_entries rule (over_soaked entry n row is sent) = not_three rule row.words_are
@@ -241,7 +261,8 @@ one_entries (over_soaked entry n row is sent) (over_soaked entry' n' row' is' se
     (is ∙ ap (λ e. e ∷ []) (one_soak row row').0 ∙ sym is', sent ∙ sym sent')
 
 -- a run of the words compiles one list of rules
-pub one_list_compiles : (words : List (List ℕ)) (files : List ℕ → Option (List ℕ)) (all others : List RuleOf) → Compiles words files all → Compiles words files others → all ≡ others
+pub one_list_compiles : (words : List (List ℕ)) (files : List ℕ → Option (List ℕ)) (all others : List RuleOf)
+    → Compiles words files all → Compiles words files others → all ≡ others
 one_list_compiles words files all others (of_file file name text reading row held is) (of_file file' name' text' reading' row' held' is') =
     let same = one_rule (over row).row (over row').row in
     let there : Some text ≡ Some text' = sym held ∙ ap files same.file_is ∙ held' in
@@ -249,16 +270,25 @@ one_list_compiles words files all others (of_file file name text reading row hel
     let rules : rule_of text name reading ≡ rule_of text' name' reading' =
     ap (λ t. rule_of t name reading) texts ∙ ap (λ n. rule_of text' n reading) same.name_is ∙ ap (λ r. rule_of text' name' r) same.reading_is in
     is ∙ ap (λ r. r ∷ []) rules ∙ sym is'
-one_list_compiles words files all others (of_file file name text reading row held is) (of_catalogue entries reading' row' is') = absurd (not_entries (over row) row')
-one_list_compiles words files all others (of_catalogue entries reading row is) (of_file file' name' text' reading' row' held' is') = absurd (not_entries (over row') row)
+one_list_compiles words files all others (of_file file name text reading row held is)
+    (of_catalogue entries reading' row' is') = absurd (not_entries (over row) row')
+one_list_compiles words files all others (of_catalogue entries reading row is)
+    (of_file file' name' text' reading' row' held' is') = absurd (not_entries (over row') row)
 one_list_compiles words files all others (of_catalogue entries reading row is) (of_catalogue entries' reading' row' is') =
     let same = one_entries row row' in
     is ∙ ap (λ r. map (rule_of_entry r) entries) same.1 ∙ ap (map (rule_of_entry reading')) same.0 ∙ sym is'
-one_list_compiles words files all others (of_file file name text reading row held is) (of_pair before after name' was now reading' row' held' has' fits fits' is') = absurd (not_five (over row) row'.words_are)
-one_list_compiles words files all others (of_pair before after name' was now reading' row' held' has' fits fits' is') (of_file file name text reading row held is) = absurd (not_five (over row) row'.words_are)
-one_list_compiles words files all others (of_catalogue entries reading row is) (of_pair before after name' was now reading' row' held' has' fits fits' is') = absurd (omega (arith, entries_short row, ap length row'.words_are))
-one_list_compiles words files all others (of_pair before after name' was now reading' row' held' has' fits fits' is') (of_catalogue entries reading row is) = absurd (omega (arith, entries_short row, ap length row'.words_are))
-one_list_compiles words files all others (of_pair before after name was now reading row held has few small is) (of_pair before' after' name' was' now' reading' row' held' has' few' small' is') =
+one_list_compiles words files all others (of_file file name text reading row held is)
+    (of_pair before after name' was now reading' row' held' has' fits fits' is') =
+    absurd (not_five (over row) row'.words_are)
+one_list_compiles words files all others (of_pair before after name' was now reading' row' held' has' fits fits' is')
+    (of_file file name text reading row held is) = absurd (not_five (over row) row'.words_are)
+one_list_compiles words files all others (of_catalogue entries reading row is)
+    (of_pair before after name' was now reading' row' held' has' fits fits' is') =
+    absurd (omega (arith, entries_short row, ap length row'.words_are))
+one_list_compiles words files all others (of_pair before after name' was now reading' row' held' has' fits fits' is')
+    (of_catalogue entries reading row is) = absurd (omega (arith, entries_short row, ap length row'.words_are))
+one_list_compiles words files all others (of_pair before after name was now reading row held has few small is)
+    (of_pair before' after' name' was' now' reading' row' held' has' few' small' is') =
     let same = one_pair row row' in
     let old = same_rule (one_held held (ap files same.file_is ∙ held')) same.name_is same.reading_is in
     let new = same_rule (one_held has (ap files same.word_is ∙ has')) same.name_is same.reading_is in
@@ -280,7 +310,8 @@ module _ (known : KnownOfTexts) where
   rules_along : (text : List ℕ) (rules others : RulesV) → HasRules text rules → HasRules text others → (P : RulesV → Type 0) → P rules → P others
   rules_along text rules others has have P p = subst P (known.one_list text rules others has have) p
 
-  one_desc : {rules : RulesV} {name : List ℕ} {reading : Reading} {d other : DescV} → IsResolved rules name reading d → IsResolved rules name reading other → d ≡ other
+  one_desc : {rules : RulesV} {name : List ℕ} {reading : Reading} {d other : DescV} → IsResolved rules name reading d
+      → IsResolved rules name reading other → d ≡ other
   one_desc {rules} {name} {reading} {d} {other} is has = known.resolved_once rules reading name d other is has
 
   one_conflict :
@@ -296,21 +327,29 @@ module _ (known : KnownOfTexts) where
   one_no_plan text name reading line other ended end (no_rules place at is e) (no_rules place' at' is' e') =
       let same : place ≡ place' = known.one_place text place place' at at' in
       (is ∙ ap (λ p. line_of (codes "syntax") (p ∷ [])) same ∙ sym is', e ∙ sym e')
-  one_no_plan text name reading line other ended end (no_rules place at is e) (rules_refused rules why place' has why_not is' e') = absurd (known.apart text _ _ has at)
-  one_no_plan text name reading line other ended end (no_rules place at is e) (not_certified rules d c has resolved first is' e') = absurd (known.apart text _ _ has at)
-  one_no_plan text name reading line other ended end (rules_refused rules why place' has why_not is' e') (no_rules place at is e) = absurd (known.apart text _ _ has at)
+  one_no_plan text name reading line other ended end (no_rules place at is e)
+      (rules_refused rules why place' has why_not is' e') = absurd (known.apart text _ _ has at)
+  one_no_plan text name reading line other ended end (no_rules place at is e)
+      (not_certified rules d c has resolved first is' e') = absurd (known.apart text _ _ has at)
+  one_no_plan text name reading line other ended end (rules_refused rules why place' has why_not is' e')
+      (no_rules place at is e) = absurd (known.apart text _ _ has at)
   one_no_plan text name reading line other ended end (rules_refused rules why place has why_not is e) (rules_refused rules' why' place' has' why_not' is' e') =
       let P : RulesV → Type 0 = λ r. IsRefused r name reading why place in
-      let same = known.refused_once rules' reading name why why' place place' (rules_along text rules rules' has has' P why_not) why_not' in
-      (is ∙ ap (λ w. line_of (codes "description") (number_of w ∷ place ∷ [])) same.0 ∙ ap (λ p. line_of (codes "description") (number_of why' ∷ p ∷ [])) same.1 ∙ sym is', e ∙ sym e')
+      let same = known.refused_once rules' reading name why why' place place' (rules_along text rules rules' has has' P why_not) why_not' in (
+        is ∙ ap (λ w. line_of (codes "description") (number_of w ∷ place ∷ [])) same.0 ∙ ap
+            (λ p. line_of (codes "description") (number_of why' ∷ p ∷ [])) same.1 ∙ sym is',
+        e ∙ sym e',
+      )
   one_no_plan text name reading line other ended end (rules_refused rules why place has why_not is e) (not_certified rules' d c has' resolved first is' e') =
       let P : RulesV → Type 0 = λ r. IsRefused r name reading why place in
       absurd (known.refused_or_resolved rules' reading name why place d (rules_along text rules rules' has has' P why_not) resolved)
-  one_no_plan text name reading line other ended end (not_certified rules d c has resolved first is' e') (no_rules place at is e) = absurd (known.apart text _ _ has at)
+  one_no_plan text name reading line other ended end (not_certified rules d c has resolved first is' e')
+      (no_rules place at is e) = absurd (known.apart text _ _ has at)
   one_no_plan text name reading line other ended end (not_certified rules' d c has' resolved first is' e') (rules_refused rules why place has why_not is e) =
       let P : RulesV → Type 0 = λ r. IsRefused r name reading why place in
       absurd (known.refused_or_resolved rules' reading name why place d (rules_along text rules rules' has has' P why_not) resolved)
-  one_no_plan text name reading line other ended end (not_certified rules d c has resolved first is e) (not_certified rules' d' c' has' resolved' first' is' e') =
+  one_no_plan text name reading line other ended end (not_certified rules d c has resolved first is e)
+      (not_certified rules' d' c' has' resolved' first' is' e') =
       let P : RulesV → Type 0 = λ r. IsResolved r name reading d in
       (is ∙ ap conflict_line (one_conflict (rules_along text rules rules' has has' P resolved) resolved' first first') ∙ sym is', e ∙ sym e')
 
@@ -357,7 +396,8 @@ module _ (known : KnownOfTexts) where
       → length text ≤ MOST_DESCRIPTION → HasRules text rules → IsResolved rules name reading d → ⊥
   none_or_described (long_text long is end) other fits has resolved = omega (arith, long, fits)
   none_or_described {text} (no_plan line fits' (no_rules place at is e) is') other fits has resolved = known.apart text _ _ has at
-  none_or_described {text} {name} {reading} {rules = rules} {d} (no_plan line fits' (rules_refused others why place has' why_not is e) is') other fits has resolved =
+  none_or_described {text} {name} {reading} {rules = rules} {d}
+      (no_plan line fits' (rules_refused others why place has' why_not is e) is') other fits has resolved =
       let P : RulesV → Type 0 = λ r. IsRefused r name reading why place in
       known.refused_or_resolved rules reading name why place d (rules_along text others rules has' has P why_not) resolved
   none_or_described (no_plan line fits' (not_certified others c conflict has' resolved' first is e) is') other fits has resolved = other e
@@ -391,16 +431,20 @@ module _ (known : KnownOfTexts) where
 
   module _ (words : List (List ℕ)) (files : List ℕ → Option (List ℕ)) where
     -- one rule that is compiled, where all that are have a job
-    all_or_none : (front : List RuleOf) (rule : RuleOf) (behind all : List RuleOf) {w : List ℕ} {e : Ended} → Compiles words files (front ++ rule ∷ behind) → Compiles words files all → AllByRecursion HasJob all → HasNoJob rule.text rule.name rule.reading w e → ⊥
+    all_or_none : (front : List RuleOf) (rule : RuleOf) (behind all : List RuleOf) {w : List ℕ} {e : Ended}
+        → Compiles words files (front ++ rule ∷ behind) → Compiles words files all → AllByRecursion HasJob all
+        → HasNoJob rule.text rule.name rule.reading w e → ⊥
     all_or_none front rule behind all compiles others has none =
-        job_or_none rule (holds_at front rule behind (subst (λ (l : List RuleOf). AllByRecursion HasJob l) (one_list_compiles words files all (front ++ rule ∷ behind) others compiles) has)) none
+        job_or_none rule (holds_at front rule behind (subst (λ (l : List RuleOf). AllByRecursion HasJob l)
+        (one_list_compiles words files all (front ++ rule ∷ behind) others compiles) has)) none
 
     -- the rule that a report is on has a job
     pub checked_compiles :
         {file name text : List ℕ} {reading : Reading} {rules : RulesV} {d : DescV} → IsOverRule words file name reading → files file ≡ Some text
         → length text ≤ MOST_DESCRIPTION → IsCompiled text name reading rules d
         → Compiles words files (rule_of text name reading ∷ []) × AllByRecursion HasJob (rule_of text name reading ∷ [])
-    checked_compiles {file} {name} {text} {reading} {rules} {d} row held fits compiled = (of_file file name text reading row held refl, ((fits, rules, d, compiled), tt))
+    checked_compiles {file} {name} {text} {reading} {rules} {d} row held fits compiled =
+        (of_file file name text reading row held refl, ((fits, rules, d, compiled), tt))
 
     -- and that of `soak` has one
     pub soaked_compiles :
@@ -415,7 +459,8 @@ module _ (known : KnownOfTexts) where
         {before after name was now : List ℕ} {reading : Reading} {rules others : RulesV} {d e : DescV} → IsCompat words before after name reading
         → files before ≡ Some was → files after ≡ Some now → length was ≤ MOST_DESCRIPTION → length now ≤ MOST_DESCRIPTION
         → IsCompiled was name reading rules d → IsCompiled now name reading others e
-        → Compiles words files (rule_of was name reading ∷ rule_of now name reading ∷ []) × AllByRecursion HasJob (rule_of was name reading ∷ rule_of now name reading ∷ [])
+        → Compiles words files (rule_of was name reading ∷ rule_of now name reading ∷ [])
+        × AllByRecursion HasJob (rule_of was name reading ∷ rule_of now name reading ∷ [])
     pair_compiles {before} {after} {name} {was} {now} {reading} {rules} {others} {d} {e} row held has few small is js =
         (of_pair before after name was now reading row held has few small refl, ((few, rules, d, is), ((small, others, e, js), tt)))
 
@@ -428,7 +473,8 @@ module _ (known : KnownOfTexts) where
       few : length was ≤ MOST_DESCRIPTION
       small : length now ≤ MOST_DESCRIPTION
 
-    both_fit : {before after name : List ℕ} {reading : Reading} {all : List RuleOf} → IsCompat words before after name reading → Compiles words files all → BothFit before after
+    both_fit : {before after name : List ℕ} {reading : Reading} {all : List RuleOf}
+        → IsCompat words before after name reading → Compiles words files all → BothFit before after
     both_fit row (of_file file name' text reading' row' held' is) = absurd (not_five (over row') row.words_are)
     both_fit row (of_catalogue entries reading' row' is) = absurd (omega (arith, entries_short row', ap length row.words_are))
     both_fit row (of_pair before' after' name' was now reading' row' held has few small is) =
@@ -437,7 +483,8 @@ module _ (known : KnownOfTexts) where
 
     -- a pair of files that is told has no rule without a job
     pair_or_none :
-        {before after name : List ℕ} {reading : Reading} (front : List RuleOf) (rule : RuleOf) (behind : List RuleOf) {w v : List ℕ} {e f : Ended} → IsCompat words before after name reading
+        {before after name : List ℕ} {reading : Reading} (front : List RuleOf) (rule : RuleOf) (behind : List RuleOf)
+        {w v : List ℕ} {e f : Ended} → IsCompat words before after name reading
         → Compiles words files (front ++ rule ∷ behind) → HasNoJob rule.text rule.name rule.reading w e → EndsPair files before after name reading v f → ⊥
     pair_or_none front rule behind row compiles none (long_before was held long is end) =
         let fit = both_fit row compiles in omega (arith, long, fit.few, ap length (one_held held fit.held))
@@ -452,16 +499,29 @@ module _ (known : KnownOfTexts) where
     one_compares (compares_no not is end) (compares_ok takes is' end') = absurd (not takes)
     one_compares (compares_no not is end) (compares_no not' is' end') = (is ∙ sym is', end ∙ sym end')
 
-    one_pair_ends : {before after name : List ℕ} {reading : Reading} (w v : List ℕ) (e f : Ended) → EndsPair files before after name reading w e → EndsPair files before after name reading v f → Written w e v f
+    one_pair_ends : {before after name : List ℕ} {reading : Reading} (w v : List ℕ) (e f : Ended)
+        → EndsPair files before after name reading w e → EndsPair files before after name reading v f
+        → Written w e v f
     one_pair_ends w v e f (long_before was held long is end) (long_before was' held' long' is' end') = (is ∙ sym is', end ∙ sym end')
-    one_pair_ends w v e f (long_before was held long is end) (long_after was' now' held' few' has' long' is' end') = absurd (omega (arith, long, few', ap length (one_held held held')))
-    one_pair_ends w v e f (long_before was held long is end) (compared was' now' line' rules' others' d' e' held' has' few' small' a' b' compares' is') = absurd (omega (arith, long, few', ap length (one_held held held')))
-    one_pair_ends w v e f (long_after was now held few has long is end) (long_before was' held' long' is' end') = absurd (omega (arith, long', few, ap length (one_held held held')))
+    one_pair_ends w v e f (long_before was held long is end) (long_after was' now' held' few' has' long' is' end') =
+        absurd (omega (arith, long, few', ap length (one_held held held')))
+    one_pair_ends w v e f (long_before was held long is end)
+        (compared was' now' line' rules' others' d' e' held' has' few' small' a' b' compares' is') =
+        absurd (omega (arith, long, few', ap length (one_held held held')))
+    one_pair_ends w v e f (long_after was now held few has long is end) (long_before was' held' long' is' end') =
+        absurd (omega (arith, long', few, ap length (one_held held held')))
     one_pair_ends w v e f (long_after was now held few has long is end) (long_after was' now' held' few' has' long' is' end') = (is ∙ sym is', end ∙ sym end')
-    one_pair_ends w v e f (long_after was now held few has long is end) (compared was' now' line' rules' others' d' e' held' has' few' small' a' b' compares' is') = absurd (omega (arith, long, small', ap length (one_held has has')))
-    one_pair_ends w v e f (compared was now line rules others d e' held has few small a b compares is) (long_before was' held' long' is' end') = absurd (omega (arith, long', few, ap length (one_held held held')))
-    one_pair_ends w v e f (compared was now line rules others d e' held has few small a b compares is) (long_after was' now' held' few' has' long' is' end') = absurd (omega (arith, long', small, ap length (one_held has has')))
-    one_pair_ends {name = name} {reading} w v e f (compared was now line rules others d x held has few small a b compares is) (compared was' now' line' rules' others' d' x' held' has' few' small' a' b' compares' is') =
+    one_pair_ends w v e f (long_after was now held few has long is end)
+        (compared was' now' line' rules' others' d' e' held' has' few' small' a' b' compares' is') =
+        absurd (omega (arith, long, small', ap length (one_held has has')))
+    one_pair_ends w v e f (compared was now line rules others d e' held has few small a b compares is)
+        (long_before was' held' long' is' end') = absurd (omega (arith, long', few, ap length (one_held held held')))
+    one_pair_ends w v e f (compared was now line rules others d e' held has few small a b compares is)
+        (long_after was' now' held' few' has' long' is' end') =
+        absurd (omega (arith, long', small, ap length (one_held has has')))
+    one_pair_ends {name = name} {reading} w v e f
+        (compared was now line rules others d x held has few small a b compares is)
+        (compared was' now' line' rules' others' d' x' held' has' few' small' a' b' compares' is') =
         let P : List ℕ → Type 0 = λ t. IsCompiled t name reading rules d in
         let Q : List ℕ → Type 0 = λ t. IsCompiled t name reading others x in
         let old = one_compiled (subst P (one_held held held') a) a' in
@@ -474,7 +534,8 @@ module _ (known : KnownOfTexts) where
     -- ---- certificates
 
     -- `verify` compiles nothing
-    pub verify_compiles : {file name certificate : List ℕ} {reading : Reading} {all : List RuleOf} → IsVerify words file name reading certificate → Compiles words files all → ⊥
+    pub verify_compiles : {file name certificate : List ℕ} {reading : Reading} {all : List RuleOf}
+        → IsVerify words file name reading certificate → Compiles words files all → ⊥
     verify_compiles row (of_file file' name' text reading' row' held' is) = not_five (over row') row.words_are
     verify_compiles row (of_catalogue entries reading' row' is) = omega (arith, entries_short row', ap length row.words_are)
     verify_compiles row (of_pair before after name' was now reading' row' held has few small is) = not_compat row' row
@@ -490,8 +551,11 @@ module _ (known : KnownOfTexts) where
         absurd (known.no_fault d c' rule node (subst P (known.of_one_certificate c c' text spells spells') good) fault)
     one_verifies {d} {text} (verifies_fault c rule node spells fault is end) (verifies_fault c' rule' node' spells' fault' is' end') =
         let P : List NodeV → Type 0 = λ x. FirstFault d x rule node in
-        let same = known.one_fault d c' rule rule' node node' (subst P (known.of_one_certificate c c' text spells spells') fault) fault' in
-        (is ∙ ap (λ r. line_of (codes "unproved") (r ∷ node ∷ [])) same.0 ∙ ap (λ n. line_of (codes "unproved") (rule' ∷ n ∷ [])) same.1 ∙ sym is', end ∙ sym end')
+        let same = known.one_fault d c' rule rule' node node' (subst P (known.of_one_certificate c c' text spells spells') fault) fault' in (
+          is ∙ ap (λ r. line_of (codes "unproved") (r ∷ node ∷ [])) same.0 ∙ ap
+              (λ n. line_of (codes "unproved") (rule' ∷ n ∷ [])) same.1 ∙ sym is',
+          end ∙ sym end',
+        )
     one_verifies (verifies_fault c rule node spells fault is end) (verifies_none none is' end') = absurd (none c spells)
     one_verifies (verifies_none none is' end') (verifies_good c spells good is end) = absurd (none c spells)
     one_verifies (verifies_none none is' end') (verifies_fault c rule node spells fault is end) = absurd (none c spells)
@@ -499,7 +563,9 @@ module _ (known : KnownOfTexts) where
 
     -- a rule has one description
     described_once :
-        {file name text text' : List ℕ} {reading : Reading} {rules others : RulesV} {d other : DescV} → IsDescribed files file name text reading rules d → IsDescribed files file name text' reading others other
+        {file name text text' : List ℕ} {reading : Reading} {rules others : RulesV} {d other : DescV}
+        → IsDescribed files file name text reading rules d
+        → IsDescribed files file name text' reading others other
         → d ≡ other
     described_once {file} {name} {text} {text'} {reading} {rules} {others} {d} {other} is has =
         let P : List ℕ → Type 0 = λ t. HasRules t rules in
@@ -508,22 +574,36 @@ module _ (known : KnownOfTexts) where
 
     -- it has a description, or a line that says why not
     described_or_none :
-        {file name text text' : List ℕ} {reading : Reading} {rules : RulesV} {d : DescV} {w : List ℕ} {e : Ended} → files file ≡ Some text → HasNoJob text name reading w e → (e ≡ NotCertified → ⊥)
+        {file name text text' : List ℕ} {reading : Reading} {rules : RulesV} {d : DescV} {w : List ℕ} {e : Ended}
+        → files file ≡ Some text → HasNoJob text name reading w e → (e ≡ NotCertified → ⊥)
         → IsDescribed files file name text' reading rules d → ⊥
     described_or_none {file} {name} {text} {text'} {reading} {rules} {d} {w} {e} held none other is =
         let P : List ℕ → Type 0 = λ t. HasNoJob t name reading w e in
         none_or_described (subst P (one_held held is.held) none) other is.fits is.has_rules is.resolved
 
-    one_verify_ends : {file name certificate : List ℕ} {reading : Reading} (w v : List ℕ) (e f : Ended) → EndsVerify files file name reading certificate w e → EndsVerify files file name reading certificate v f → Written w e v f
+    one_verify_ends : {file name certificate : List ℕ} {reading : Reading} (w v : List ℕ) (e f : Ended)
+        → EndsVerify files file name reading certificate w e → EndsVerify files file name reading certificate v f
+        → Written w e v f
     one_verify_ends {file} {name} {certificate} {reading} w v e f (no_description text held none other) (no_description text' held' none' other') =
         let P : List ℕ → Type 0 = λ t. HasNoJob t name reading w e in one_no_job text' name reading w v e f (subst P (one_held held held') none) none'
-    one_verify_ends w v e f (no_description text held none other) (long_certificate text' bytes' rules' d' is' held' long' empty' end') = absurd (described_or_none held none other is')
-    one_verify_ends w v e f (no_description text held none other) (verified text' bytes' line' rules' d' is' held' few' told' all') = absurd (described_or_none held none other is')
-    one_verify_ends w v e f (long_certificate text' bytes' rules' d' is' held' long' empty' end') (no_description text held none other) = absurd (described_or_none held none other is')
-    one_verify_ends w v e f (long_certificate text bytes rules d is held long empty end) (long_certificate text' bytes' rules' d' is' held' long' empty' end') = (empty ∙ sym empty', end ∙ sym end')
-    one_verify_ends w v e f (long_certificate text bytes rules d is held long empty end) (verified text' bytes' line' rules' d' is' held' few' told' all') = absurd (omega (arith, long, few', ap length (one_held held held')))
-    one_verify_ends w v e f (verified text' bytes' line' rules' d' is' held' few' told' all') (no_description text held none other) = absurd (described_or_none held none other is')
-    one_verify_ends w v e f (verified text' bytes' line' rules' d' is' held' few' told' all') (long_certificate text bytes rules d is held long empty end) = absurd (omega (arith, long, few', ap length (one_held held held')))
+    one_verify_ends w v e f (no_description text held none other)
+        (long_certificate text' bytes' rules' d' is' held' long' empty' end') =
+        absurd (described_or_none held none other is')
+    one_verify_ends w v e f (no_description text held none other)
+        (verified text' bytes' line' rules' d' is' held' few' told' all') =
+        absurd (described_or_none held none other is')
+    one_verify_ends w v e f (long_certificate text' bytes' rules' d' is' held' long' empty' end')
+        (no_description text held none other) = absurd (described_or_none held none other is')
+    one_verify_ends w v e f (long_certificate text bytes rules d is held long empty end)
+        (long_certificate text' bytes' rules' d' is' held' long' empty' end') = (empty ∙ sym empty', end ∙ sym end')
+    one_verify_ends w v e f (long_certificate text bytes rules d is held long empty end)
+        (verified text' bytes' line' rules' d' is' held' few' told' all') =
+        absurd (omega (arith, long, few', ap length (one_held held held')))
+    one_verify_ends w v e f (verified text' bytes' line' rules' d' is' held' few' told' all')
+        (no_description text held none other) = absurd (described_or_none held none other is')
+    one_verify_ends w v e f (verified text' bytes' line' rules' d' is' held' few' told' all')
+        (long_certificate text bytes rules d is held long empty end) =
+        absurd (omega (arith, long, few', ap length (one_held held held')))
     one_verify_ends w v e f (verified text bytes line rules d is held few told all) (verified text' bytes' line' rules' d' is' held' few' told' all') =
         let P : List ℕ → Type 0 = λ t. Verifies d t line e in
         let Q : DescV → Type 0 = λ x. Verifies x bytes' line e in
@@ -538,8 +618,11 @@ module _ (known : KnownOfTexts) where
         let all = checked_compiles (inl (report, row')) held' fits compiled in absurd (all_or_none front rule behind _ compiles all.0 all.1 none)
     one_before w v e f (reported report file' name' text' reading' rules d row' held' fits compiled is end) (no_job front rule behind compiles has none) =
         let all = checked_compiles (inl (report, row')) held' fits compiled in absurd (all_or_none front rule behind _ compiles all.0 all.1 none)
-    one_before w v e f (reported report file name text reading rules d row held fits compiled is end) (reported report' file' name' text' reading' rules' d' row' held' fits' compiled' is' end') =
-        let same = first_of (one_list_compiles words files _ _ (checked_compiles (inl (report, row)) held fits compiled).0 (checked_compiles (inl (report', row')) held' fits' compiled').0) in
+    one_before w v e f (reported report file name text reading rules d row held fits compiled is end)
+        (reported report' file' name' text' reading' rules' d' row' held' fits' compiled' is' end') =
+        let same = first_of
+        (one_list_compiles words files _ _ (checked_compiles (inl (report, row)) held fits compiled).0
+        (checked_compiles (inl (report', row')) held' fits' compiled').0) in
         let P : RuleOf → Type 0 = λ r. IsCompiled r.text r.name r.reading rules d in
         let one = one_compiled (subst P same compiled) compiled' in
         let kind = one_report report report' (one_rule row row').word_is in
@@ -550,9 +633,11 @@ module _ (known : KnownOfTexts) where
         let all = soaked_compiles row fits compiled in absurd (all_or_none front rule behind _ compiles all.0 all.1 none)
     one_before w v e f (soaked entry n rules d counts row fits compiled from is end) (no_job front rule behind compiles has none) =
         let all = soaked_compiles row fits compiled in absurd (all_or_none front rule behind _ compiles all.0 all.1 none)
-    one_before w v e f (reported report file name text reading rules d row held fits compiled is end) (soaked entry n rules' d' counts row' fits' compiled' from is' end') =
+    one_before w v e f (reported report file name text reading rules d row held fits compiled is end)
+        (soaked entry n rules' d' counts row' fits' compiled' from is' end') =
         absurd (not_three (over (inl (report, row))) row'.words_are)
-    one_before w v e f (soaked entry n rules' d' counts row' fits' compiled' from is' end') (reported report file name text reading rules d row held fits compiled is end) =
+    one_before w v e f (soaked entry n rules' d' counts row' fits' compiled' from is' end')
+        (reported report file name text reading rules d row held fits compiled is end) =
         absurd (not_three (over (inl (report, row))) row'.words_are)
     one_before w v e f (soaked entry n rules d counts row fits compiled from is end) (soaked entry' n' rules' d' counts' row' fits' compiled' from' is' end') =
         let same = one_soak row row' in
@@ -563,20 +648,39 @@ module _ (known : KnownOfTexts) where
         let S : DescV → Type 0 = λ x. IsSoaked x entry' n' counts in
         let all = one_soaked (subst S one (subst R same.1 (subst Q same.0 from))) from' in
         (is ∙ ap (λ m. soaked_line m counts ++ 10 ∷ []) same.1 ∙ ap (λ s. soaked_line n' s ++ 10 ∷ []) all ∙ sym is', end ∙ sym end')
-    one_before w v e f (no_job front rule behind compiles has none) (of_two before after name reading row ends) = absurd (pair_or_none front rule behind row compiles none ends)
-    one_before w v e f (of_two before after name reading row ends) (no_job front rule behind compiles has none) = absurd (pair_or_none front rule behind row compiles none ends)
-    one_before w v e f (reported report file name text reading rules d row held fits compiled is end) (of_two before' after' name' reading' row' ends) = absurd (not_five (over (inl (report, row))) row'.words_are)
-    one_before w v e f (of_two before' after' name' reading' row' ends) (reported report file name text reading rules d row held fits compiled is end) = absurd (not_five (over (inl (report, row))) row'.words_are)
-    one_before w v e f (soaked entry n rules d counts row fits compiled from is end) (of_two before' after' name' reading' row' ends) = absurd (omega (arith, ap length row.words_are, ap length row'.words_are))
-    one_before w v e f (of_two before' after' name' reading' row' ends) (soaked entry n rules d counts row fits compiled from is end) = absurd (omega (arith, ap length row.words_are, ap length row'.words_are))
+    one_before w v e f (no_job front rule behind compiles has none) (of_two before after name reading row ends) =
+        absurd (pair_or_none front rule behind row compiles none ends)
+    one_before w v e f (of_two before after name reading row ends) (no_job front rule behind compiles has none) =
+        absurd (pair_or_none front rule behind row compiles none ends)
+    one_before w v e f (reported report file name text reading rules d row held fits compiled is end)
+        (of_two before' after' name' reading' row' ends) = absurd (not_five (over (inl (report, row))) row'.words_are)
+    one_before w v e f (of_two before' after' name' reading' row' ends)
+        (reported report file name text reading rules d row held fits compiled is end) =
+        absurd (not_five (over (inl (report, row))) row'.words_are)
+    one_before w v e f (soaked entry n rules d counts row fits compiled from is end)
+        (of_two before' after' name' reading' row' ends) =
+        absurd (omega (arith, ap length row.words_are, ap length row'.words_are))
+    one_before w v e f (of_two before' after' name' reading' row' ends)
+        (soaked entry n rules d counts row fits compiled from is end) =
+        absurd (omega (arith, ap length row.words_are, ap length row'.words_are))
     one_before w v e f (of_two before after name reading row ends) (of_two before' after' name' reading' row' ends') =
         one_pair_ends w v e f (same_row (one_pair row row') (λ a b n r. EndsPair files b a n r w e) ends) ends'
-    one_before w v e f (no_job front rule behind compiles has none) (of_certificate file name reading certificate row ends) = absurd (verify_compiles row compiles)
-    one_before w v e f (of_certificate file name reading certificate row ends) (no_job front rule behind compiles has none) = absurd (verify_compiles row compiles)
-    one_before w v e f (reported report file name text reading rules d row held fits compiled is end) (of_certificate file' name' reading' certificate row' ends) = absurd (not_five (over (inl (report, row))) row'.words_are)
-    one_before w v e f (of_certificate file' name' reading' certificate row' ends) (reported report file name text reading rules d row held fits compiled is end) = absurd (not_five (over (inl (report, row))) row'.words_are)
-    one_before w v e f (soaked entry n rules d counts row fits compiled from is end) (of_certificate file' name' reading' certificate row' ends) = absurd (omega (arith, ap length row.words_are, ap length row'.words_are))
-    one_before w v e f (of_certificate file' name' reading' certificate row' ends) (soaked entry n rules d counts row fits compiled from is end) = absurd (omega (arith, ap length row.words_are, ap length row'.words_are))
+    one_before w v e f (no_job front rule behind compiles has none)
+        (of_certificate file name reading certificate row ends) = absurd (verify_compiles row compiles)
+    one_before w v e f (of_certificate file name reading certificate row ends)
+        (no_job front rule behind compiles has none) = absurd (verify_compiles row compiles)
+    one_before w v e f (reported report file name text reading rules d row held fits compiled is end)
+        (of_certificate file' name' reading' certificate row' ends) =
+        absurd (not_five (over (inl (report, row))) row'.words_are)
+    one_before w v e f (of_certificate file' name' reading' certificate row' ends)
+        (reported report file name text reading rules d row held fits compiled is end) =
+        absurd (not_five (over (inl (report, row))) row'.words_are)
+    one_before w v e f (soaked entry n rules d counts row fits compiled from is end)
+        (of_certificate file' name' reading' certificate row' ends) =
+        absurd (omega (arith, ap length row.words_are, ap length row'.words_are))
+    one_before w v e f (of_certificate file' name' reading' certificate row' ends)
+        (soaked entry n rules d counts row fits compiled from is end) =
+        absurd (omega (arith, ap length row.words_are, ap length row'.words_are))
     one_before w v e f (of_two before after name reading row ends) (of_certificate file' name' reading' certificate row' ends') = absurd (not_compat row row')
     one_before w v e f (of_certificate file' name' reading' certificate row' ends') (of_two before after name reading row ends) = absurd (not_compat row row')
     one_before w v e f (of_certificate file name reading certificate row ends) (of_certificate file' name' reading' certificate' row' ends') =
@@ -585,72 +689,110 @@ module _ (known : KnownOfTexts) where
     -- ---- which job the words ask for
 
     one_job : (watchers : List Watched) (job other : LineJob) → AsksFor words files watchers job → AsksFor words files watchers other → job ≡ other
-    one_job watchers job other (asks_by_rule command file name text reading rules d row held fits compiled is) (asks_by_rule command' file' name' text' reading' rules' d' row' held' fits' compiled' is') =
-        let here = first_of (one_list_compiles words files _ _ (checked_compiles (inr (command, row)) held fits compiled).0 (checked_compiles (inr (command', row')) held' fits' compiled').0) in
+    one_job watchers job other (asks_by_rule command file name text reading rules d row held fits compiled is)
+        (asks_by_rule command' file' name' text' reading' rules' d' row' held' fits' compiled' is') =
+        let here = first_of
+        (one_list_compiles words files _ _ (checked_compiles (inr (command, row)) held fits compiled).0
+        (checked_compiles (inr (command', row')) held' fits' compiled').0) in
         let P : RuleOf → Type 0 = λ r. HasRules r.text rules in
         let all : rules ≡ rules' = known.one_list text' rules rules' (subst P here compiled.has_rules) compiled'.has_rules in
         let same = one_rule row row' in
-        is ∙ ap (λ c. by_rule c rules name reading) (one_command command command' same.word_is) ∙ ap (λ r. by_rule command' r name reading) all ∙ ap (λ n. by_rule command' rules' n reading) same.name_is ∙ ap (λ r. by_rule command' rules' name' r) same.reading_is ∙ sym is'
-    one_job watchers job other (asks_by_rule command file name text reading rules d row held fits compiled is) (asks_migrate row' is') = absurd (not_migrate (answers command row) row')
-    one_job watchers job other (asks_by_rule command file name text reading rules d row held fits compiled is) (asks_segments reading' rules' d' row' fits' compiled' is') = absurd (not_two (answers command row) row')
-    one_job watchers job other (asks_migrate row' is') (asks_by_rule command file name text reading rules d row held fits compiled is) = absurd (not_migrate (answers command row) row')
+        is ∙ ap (λ c. by_rule c rules name reading) (one_command command command' same.word_is)
+        ∙ ap (λ r. by_rule command' r name reading) all ∙ ap (λ n. by_rule command' rules' n reading) same.name_is
+        ∙ ap (λ r. by_rule command' rules' name' r) same.reading_is ∙ sym is'
+    one_job watchers job other (asks_by_rule command file name text reading rules d row held fits compiled is)
+        (asks_migrate row' is') = absurd (not_migrate (answers command row) row')
+    one_job watchers job other (asks_by_rule command file name text reading rules d row held fits compiled is)
+        (asks_segments reading' rules' d' row' fits' compiled' is') = absurd (not_two (answers command row) row')
+    one_job watchers job other (asks_migrate row' is')
+        (asks_by_rule command file name text reading rules d row held fits compiled is) =
+        absurd (not_migrate (answers command row) row')
     one_job watchers job other (asks_migrate row is) (asks_migrate row' is') = is ∙ sym is'
     one_job watchers job other (asks_migrate row is) (asks_segments reading' rules' d' row' fits' compiled' is') = absurd (migrate_alone row row')
-    one_job watchers job other (asks_segments reading' rules' d' row' fits' compiled' is') (asks_by_rule command file name text reading rules d row held fits compiled is) = absurd (not_two (answers command row) row')
+    one_job watchers job other (asks_segments reading' rules' d' row' fits' compiled' is')
+        (asks_by_rule command file name text reading rules d row held fits compiled is) =
+        absurd (not_two (answers command row) row')
     one_job watchers job other (asks_segments reading' rules' d' row' fits' compiled' is') (asks_migrate row is) = absurd (migrate_alone row row')
     one_job watchers job other (asks_segments reading rules d row fits compiled is) (asks_segments reading' rules' d' row' fits' compiled' is') =
         let all : rules ≡ rules' = known.one_list catalogue_text rules rules' compiled.has_rules compiled'.has_rules in
         is ∙ ap (λ r. segmenting r reading) all ∙ ap (λ r. segmenting rules' r) (same_reading row row') ∙ sym is'
-    one_job watchers job other (asks_by_rule command file name text reading rules d row held fits compiled is) (asks_replay reading' rules' plans' row' fits' compiled' is') = absurd (not_two (answers command row) row')
+    one_job watchers job other (asks_by_rule command file name text reading rules d row held fits compiled is)
+        (asks_replay reading' rules' plans' row' fits' compiled' is') = absurd (not_two (answers command row) row')
     one_job watchers job other (asks_migrate row is) (asks_replay reading' rules' plans' row' fits' compiled' is') = absurd (migrate_alone row row')
-    one_job watchers job other (asks_segments reading rules d row fits compiled is) (asks_replay reading' rules' plans' row' fits' compiled' is') = absurd (not_segments_and_replay reading reading' row row')
-    one_job watchers job other (asks_replay reading' rules' plans' row' fits' compiled' is') (asks_by_rule command file name text reading rules d row held fits compiled is) = absurd (not_two (answers command row) row')
+    one_job watchers job other (asks_segments reading rules d row fits compiled is)
+        (asks_replay reading' rules' plans' row' fits' compiled' is') =
+        absurd (not_segments_and_replay reading reading' row row')
+    one_job watchers job other (asks_replay reading' rules' plans' row' fits' compiled' is')
+        (asks_by_rule command file name text reading rules d row held fits compiled is) =
+        absurd (not_two (answers command row) row')
     one_job watchers job other (asks_replay reading' rules' plans' row' fits' compiled' is') (asks_migrate row is) = absurd (migrate_alone row row')
-    one_job watchers job other (asks_replay reading' rules' plans' row' fits' compiled' is') (asks_segments reading rules d row fits compiled is) = absurd (not_segments_and_replay reading reading' row row')
+    one_job watchers job other (asks_replay reading' rules' plans' row' fits' compiled' is')
+        (asks_segments reading rules d row fits compiled is) =
+        absurd (not_segments_and_replay reading reading' row row')
     one_job watchers job other (asks_replay reading rules plans row fits compiled is) (asks_replay reading' rules' plans' row' fits' compiled' is') =
-        let all : rules ≡ rules' = known.one_list catalogue_text rules rules' (rules_compiled reading rules plans compiled) (rules_compiled reading' rules' plans' compiled') in
+        let all : rules ≡ rules' = known.one_list catalogue_text rules rules'
+        (rules_compiled reading rules plans compiled) (rules_compiled reading' rules' plans' compiled') in
         is ∙ ap (λ r. replaying r reading watchers) all ∙ ap (λ r. replaying rules' r watchers) (same_reading row row') ∙ sym is'
 
     -- a run that has a job over lines has one for each rule that it compiles
-    pub jobs_compile : {watchers : List Watched} (job : LineJob) (all : List RuleOf) → AsksFor words files watchers job → Compiles words files all → AllByRecursion HasJob all
+    pub jobs_compile : {watchers : List Watched} (job : LineJob) (all : List RuleOf)
+        → AsksFor words files watchers job → Compiles words files all → AllByRecursion HasJob all
     jobs_compile job all (asks_by_rule command file name text reading rules d row held fits compiled is) compiles =
         let here = checked_compiles (inr (command, row)) held fits compiled in
         subst (λ (l : List RuleOf). AllByRecursion HasJob l) (one_list_compiles words files _ all here.0 compiles) here.1
     jobs_compile job all (asks_migrate row is) (of_file file name text reading row' held is') = absurd (not_migrate (over row') row)
     jobs_compile job all (asks_migrate row is) (of_catalogue entries reading row' is') = absurd (migrate_no_entries row row')
-    jobs_compile job all (asks_migrate row is) (of_pair before after name was now reading row' held has few small is') = absurd (omega (arith, ap length row, ap length row'.words_are))
+    jobs_compile job all (asks_migrate row is) (of_pair before after name was now reading row' held has few small is')
+        = absurd (omega (arith, ap length row, ap length row'.words_are))
     jobs_compile job all (asks_segments reading rules d row fits compiled is) compiles =
         let here : AllByRecursion HasJob (rule_of_entry reading Downlink ∷ []) = ((fits, rules, d, compiled), tt) in
-        subst (λ (l : List RuleOf). AllByRecursion HasJob l) (one_list_compiles words files (rule_of_entry reading Downlink ∷ []) all (of_catalogue (Downlink ∷ []) reading (over_downlink row refl) refl) compiles) here
+        subst (λ (l : List RuleOf). AllByRecursion HasJob l)
+        (one_list_compiles words files (rule_of_entry reading Downlink ∷ []) all
+        (of_catalogue (Downlink ∷ []) reading (over_downlink row refl) refl) compiles) here
     jobs_compile job all (asks_replay reading rules plans row fits compiled is) compiles =
-        subst (λ (l : List RuleOf). AllByRecursion HasJob l) (one_list_compiles words files (map (rule_of_entry reading) all_entries) all (of_catalogue all_entries reading (over_all row refl) refl) compiles)
+        subst (λ (l : List RuleOf). AllByRecursion HasJob l)
+        (one_list_compiles words files (map (rule_of_entry reading) all_entries) all
+        (of_catalogue all_entries reading (over_all row refl) refl) compiles)
         (all_have_jobs fits reading rules all_entries plans compiled)
 
     -- `compat` has no job over lines
-    pub pair_no_job : {watchers : List Watched} {job : LineJob} {before after name : List ℕ} {reading : Reading} → IsCompat words before after name reading → AsksFor words files watchers job → ⊥
+    pub pair_no_job : {watchers : List Watched} {job : LineJob} {before after name : List ℕ} {reading : Reading}
+        → IsCompat words before after name reading → AsksFor words files watchers job → ⊥
     pair_no_job row (asks_by_rule command file' name' text' reading' rules' d' row' held' fits' compiled' is') = not_five (answers command row') row.words_are
     pair_no_job row (asks_migrate row' is') = omega (arith, ap length row', ap length row.words_are)
     pair_no_job row (asks_segments reading' rules' d' row' fits' compiled' is') = omega (arith, ap length row', ap length row.words_are)
     pair_no_job row (asks_replay reading' rules' plans' row' fits' compiled' is') = omega (arith, ap length row', ap length row.words_are)
 
     -- nor has `verify`
-    pub verify_no_job : {watchers : List Watched} {job : LineJob} {file name certificate : List ℕ} {reading : Reading} → IsVerify words file name reading certificate → AsksFor words files watchers job → ⊥
-    verify_no_job row (asks_by_rule command file' name' text' reading' rules' d' row' held' fits' compiled' is') = not_five (answers command row') row.words_are
+    pub verify_no_job : {watchers : List Watched} {job : LineJob} {file name certificate : List ℕ} {reading : Reading}
+        → IsVerify words file name reading certificate → AsksFor words files watchers job → ⊥
+    verify_no_job row (asks_by_rule command file' name' text' reading' rules' d' row' held' fits' compiled' is') =
+        not_five (answers command row') row.words_are
     verify_no_job row (asks_migrate row' is') = omega (arith, ap length row', ap length row.words_are)
     verify_no_job row (asks_segments reading' rules' d' row' fits' compiled' is') = omega (arith, ap length row', ap length row.words_are)
     verify_no_job row (asks_replay reading' rules' plans' row' fits' compiled' is') = omega (arith, ap length row', ap length row.words_are)
 
     -- a run that comes to no line has no job over lines
     pub before_or_job : {w : List ℕ} {e : Ended} {watchers : List Watched} (job : LineJob) → EndsBefore words files w e → AsksFor words files watchers job → ⊥
-    before_or_job job (no_job front rule behind compiles has none) asked = job_or_none rule (holds_at front rule behind (jobs_compile job _ asked compiles)) none
-    before_or_job job (reported report file name text reading rules d row held fits compiled is end) (asks_by_rule command file' name' text' reading' rules' d' row' held' fits' compiled' is') = not_both report command row row'
-    before_or_job job (reported report file name text reading rules d row held fits compiled is end) (asks_migrate row' is') = not_migrate (over (inl (report, row))) row'
-    before_or_job job (reported report file name text reading rules d row held fits compiled is end) (asks_segments reading' rules' d' row' fits' compiled' is') = not_two (over (inl (report, row))) row'
-    before_or_job job (reported report file name text reading rules d row held fits compiled is end) (asks_replay reading' rules' plans' row' fits' compiled' is') = not_two (over (inl (report, row))) row'
-    before_or_job job (soaked entry n rules d counts row fits compiled from is end) (asks_by_rule command file' name' text' reading' rules' d' row' held' fits' compiled' is') = not_three (answers command row') row.words_are
+    before_or_job job (no_job front rule behind compiles has none) asked =
+        job_or_none rule (holds_at front rule behind (jobs_compile job _ asked compiles)) none
+    before_or_job job (reported report file name text reading rules d row held fits compiled is end)
+        (asks_by_rule command file' name' text' reading' rules' d' row' held' fits' compiled' is') =
+        not_both report command row row'
+    before_or_job job (reported report file name text reading rules d row held fits compiled is end)
+        (asks_migrate row' is') = not_migrate (over (inl (report, row))) row'
+    before_or_job job (reported report file name text reading rules d row held fits compiled is end)
+        (asks_segments reading' rules' d' row' fits' compiled' is') = not_two (over (inl (report, row))) row'
+    before_or_job job (reported report file name text reading rules d row held fits compiled is end)
+        (asks_replay reading' rules' plans' row' fits' compiled' is') = not_two (over (inl (report, row))) row'
+    before_or_job job (soaked entry n rules d counts row fits compiled from is end)
+        (asks_by_rule command file' name' text' reading' rules' d' row' held' fits' compiled' is') =
+        not_three (answers command row') row.words_are
     before_or_job job (soaked entry n rules d counts row fits compiled from is end) (asks_migrate row' is') = migrate_not_three row' row.words_are
-    before_or_job job (soaked entry n rules d counts row fits compiled from is end) (asks_segments reading' rules' d' row' fits' compiled' is') = two_not_three row' row.words_are
-    before_or_job job (soaked entry n rules d counts row fits compiled from is end) (asks_replay reading' rules' plans' row' fits' compiled' is') = two_not_three row' row.words_are
+    before_or_job job (soaked entry n rules d counts row fits compiled from is end)
+        (asks_segments reading' rules' d' row' fits' compiled' is') = two_not_three row' row.words_are
+    before_or_job job (soaked entry n rules d counts row fits compiled from is end)
+        (asks_replay reading' rules' plans' row' fits' compiled' is') = two_not_three row' row.words_are
     before_or_job job (of_two before after name reading row ends) asked = pair_no_job row asked
     before_or_job job (of_certificate file name reading certificate row ends) asked = verify_no_job row asked
 

@@ -10,7 +10,8 @@ use Rattle.csn_run.specs.Result.{AnswersPromptly, nothing_read, some_read}
 use Rattle.csn_run.proofs.ResultLemmas.{given_front, handed_front, taken_then}
 
 -- no answer is kept back of a text that goes on
-keeps_up_longer : {St : Type 0} {Step : St → List ℕ → List ℕ → St → Type 0} {begin : St} {given text : List ℕ} (more : List ℕ) → KeepsUp Step begin given text → KeepsUp Step begin given (text ++ more)
+keeps_up_longer : {St : Type 0} {Step : St → List ℕ → List ℕ → St → Type 0} {begin : St} {given text : List ℕ}
+    (more : List ℕ) → KeepsUp Step begin given text → KeepsUp Step begin given (text ++ more)
 keeps_up_longer more k = record {
   before = k.before;
   piece = k.piece;
@@ -24,7 +25,8 @@ keeps_up_longer more k = record {
 
 -- what a run has written, of which the sink took the front of what waited
 pub prompt_of :
-    (words : List (List ℕ)) (files : List ℕ → Option (List ℕ)) (watchers : List Watched) (input before : List ℕ) (left' taken' taken'' : Option (List ℕ)) (waits front : List ℕ) (end : Result Ended Fault)
+    (words : List (List ℕ)) (files : List ℕ → Option (List ℕ)) (watchers : List Watched) (input before : List ℕ)
+    (left' taken' taken'' : Option (List ℕ)) (waits front : List ℕ) (end : Result Ended Fault)
     → JobEnds words (Some files) watchers (Some input) left' (Some before) taken' waits end → Appended taken' taken'' front
     → (written : List ℕ) × (taken'' ≡ Some (before ++ written)) × AnswersPromptly words files watchers input left' written
 prompt_of words files watchers input before left' taken' taken'' waits front end (unread same_left same_taken none cause) handed =

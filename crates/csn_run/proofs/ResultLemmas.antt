@@ -1,5 +1,7 @@
 -- What a run has written when it is over, over files, an input and an output that are told.
-use Rattle.std.proofs.Common.{◌≡◌, ℕ, ◌+◌, ◌≤◌, Bool, true, false, ◌⊎◌, inl, inr, List, [], ◌∷◌, ◌++◌, length, take, Option, Some, None, Result, Ok, Err, refl, sym, ◌∙◌, ap, subst, arith, append_assoc, length-append}
+use Rattle.std.proofs.Common.{◌≡◌, ℕ, ◌+◌, ◌≤◌, Bool, true, false, ◌⊎◌, inl, inr, List, [], ◌∷◌, ◌++◌, length, take}
+use Rattle.std.proofs.Common.{Option, Some, None, Result, Ok, Err, refl, sym, ◌∙◌, ap, subst, arith, append_assoc}
+use Rattle.std.proofs.Common.{length-append}
 use Rattle.std.proofs.lemmas.List.{append-nil, take-append-le}
 use Rattle.std.specs.Option.{option_map}
 use Rattle.csn_desc.specs.declared.reading.Reading.{Reading}
@@ -7,7 +9,8 @@ use Rattle.csn_io.specs.Got.{Gave, NothingLeft}
 use Rattle.csn_io.specs.Put.{Appended}
 use Rattle.csn_replay.specs.Watched.{Watched}
 use Rattle.csn_plan.specs.declared.ended.Ended.{Ended}
-use Rattle.csn_plan.specs.declared.ended.Ended.TheVariants.{Done, SomeRefused, Usage, BadDescription, NotCertified, ReadFault, WriteFault, NoMemory, TooLong as Long}
+use Rattle.csn_plan.specs.declared.ended.Ended.TheVariants.{Done, SomeRefused, Usage, BadDescription, NotCertified}
+use Rattle.csn_plan.specs.declared.ended.Ended.TheVariants.{ReadFault, WriteFault, NoMemory, TooLong as Long}
 use Rattle.csn_lines.specs.declared.fault.Fault.{Fault}
 use Rattle.csn_lines.specs.declared.fault.Fault.TheVariants.{Read, Write, Memory, TooLong}
 use Rattle.csn_lines.specs.declared.lines.TheConstants.{MOST_INPUT}
@@ -33,7 +36,8 @@ no_front [] rest e = refl
 no_front (x ∷ front) rest e = cc
 
 -- bytes that a told source gave are the front of what it had
-pub given_front : (whole given : List ℕ) (left' : Option (List ℕ)) → Gave (Some whole) left' given → (rest : List ℕ) × (whole ≡ given ++ rest) × (left' ≡ Some rest)
+pub given_front : (whole given : List ℕ) (left' : Option (List ℕ)) → Gave (Some whole) left' given → (rest : List ℕ)
+    × (whole ≡ given ++ rest) × (left' ≡ Some rest)
 given_front whole given left' g = g
 
 -- a source that has nothing left gave all
@@ -43,12 +47,14 @@ given_all whole given left' g none =
     g.1 ∙ ap (λ l. given ++ l) nothing ∙ append-nil given
 
 -- what a sink took in a job, and then of what waited
-pub taken_then : (before : List ℕ) (taken' taken'' : Option (List ℕ)) (took front : List ℕ) → Appended (Some before) taken' took → Appended taken' taken'' front → taken'' ≡ Some (before ++ (took ++ front))
+pub taken_then : (before : List ℕ) (taken' taken'' : Option (List ℕ)) (took front : List ℕ)
+    → Appended (Some before) taken' took → Appended taken' taken'' front → taken'' ≡ Some (before ++ (took ++ front))
 taken_then before taken' taken'' took front job rest =
     rest ∙ ap (option_map (λ taken. taken ++ front)) job ∙ ap Some (append_assoc before took front)
 
 -- what waited of a job that had handed on nothing
-pub handed_front : (before front : List ℕ) (taken' taken'' : Option (List ℕ)) → taken' ≡ Some before → Appended taken' taken'' front → taken'' ≡ Some (before ++ front)
+pub handed_front : (before front : List ℕ) (taken' taken'' : Option (List ℕ))
+    → taken' ≡ Some before → Appended taken' taken'' front → taken'' ≡ Some (before ++ front)
 handed_front before front taken' taken'' same handed = handed ∙ ap (option_map (λ taken. taken ++ front)) same
 
 -- ---- the end of a run
@@ -57,14 +63,18 @@ end_after_lines : (refused : Bool) (ended : Ended) (end : Result Ended Fault) �
 end_after_lines refused ended end is e = is ∙ ap end_with e
 
 -- how `compat` ends over two files that are there, and are certified or too long
-pub pair_apart : {files : List ℕ → Option (List ℕ)} {old new name written : List ℕ} {reading : Reading} {ended : Ended} → whole.EndsPair files old new name reading written ended → (ended ≡ Done → ⊥) × (ended ≡ SomeRefused → ⊥) × (ended ≡ Long → ⊥) → ⊥
+pub pair_apart : {files : List ℕ → Option (List ℕ)} {old new name written : List ℕ} {reading : Reading}
+    {ended : Ended} → whole.EndsPair files old new name reading written ended → (ended ≡ Done → ⊥)
+    × (ended ≡ SomeRefused → ⊥) × (ended ≡ Long → ⊥) → ⊥
 pair_apart (whole.long_before was held long is e) apart = apart.2 e
 pair_apart (whole.long_after was now held few has long is e) apart = apart.2 e
 pair_apart (whole.compared was now line rules others d x held has few small a b (compares_ok takes text e) is) apart = apart.0 e
 pair_apart (whole.compared was now line rules others d x held has few small a b (compares_no not text e) is) apart = apart.1 e
 
 -- how `verify` ends over two files that are there
-pub verify_apart : {files : List ℕ → Option (List ℕ)} {file name certificate written : List ℕ} {reading : Reading} {ended : Ended} → whole.EndsVerify files file name reading certificate written ended → (ended ≡ Done → ⊥) × (ended ≡ BadDescription → ⊥) × (ended ≡ NotCertified → ⊥) × (ended ≡ Long → ⊥) → ⊥
+pub verify_apart : {files : List ℕ → Option (List ℕ)} {file name certificate written : List ℕ} {reading : Reading}
+    {ended : Ended} → whole.EndsVerify files file name reading certificate written ended → (ended ≡ Done → ⊥)
+    × (ended ≡ BadDescription → ⊥) × (ended ≡ NotCertified → ⊥) × (ended ≡ Long → ⊥) → ⊥
 verify_apart (whole.no_description text held (whole.long_text long is e) other) apart = apart.3 e
 verify_apart (whole.no_description text held (whole.no_plan line fits (no_rules place at is e) all) other) apart = apart.1 e
 verify_apart (whole.no_description text held (whole.no_plan line fits (rules_refused rules why place has why_not is e) all) other) apart = apart.1 e
@@ -75,7 +85,8 @@ verify_apart (whole.verified text bytes line rules d is held few (verifies_fault
 verify_apart (whole.verified text bytes line rules d is held few (verifies_none none told e) all) apart = apart.2 e
 
 -- a fault that ends a job ends no finished run, but for an input that is too long
-unfinished : (fault : Fault) (ended : Ended) (end : Result Ended Fault) → ended ≡ end_with end → end ≡ Err fault → whole.IsFinished ended → whole.IsFinished (end_by fault)
+unfinished : (fault : Fault) (ended : Ended) (end : Result Ended Fault) → ended ≡ end_with end → end ≡ Err fault
+    → whole.IsFinished ended → whole.IsFinished (end_by fault)
 unfinished fault ended end is e finished = subst whole.IsFinished (is ∙ ap end_with e) finished
 
 module _ (words : List (List ℕ)) (files : List ℕ → Option (List ℕ)) (watchers : List Watched) (input before : List ℕ) where
@@ -101,7 +112,9 @@ module _ (words : List (List ℕ)) (files : List ℕ → Option (List ℕ)) (wat
       let all = given_all input a.given left' a.source a.nothing_left in (
         a.took ++ waits,
         taken_then before taken' taken'' a.took waits a.sink handed,
-        whole.lines job asked (subst (λ (i : List ℕ). whole.AnswersInput job i (a.took ++ waits) ended) (sym all) (whole.answers_all a.text a.after refused a.fits a.answers a.closed (end_after_lines refused ended end is e))),
+        whole.lines job asked (subst (λ (i : List ℕ). whole.AnswersInput job i (a.took ++ waits) ended) (sym all)
+            (whole.answers_all a.text a.after refused a.fits a.answers a.closed
+            (end_after_lines refused ended end is e))),
       )
   result_of left' taken' taken'' waits end ended (some_lines job Read asked s e) handed is finished = absurd (unfinished Read ended end is e finished)
   result_of left' taken' taken'' waits end ended (some_lines job Write asked s e) handed is finished = absurd (unfinished Write ended end is e finished)
@@ -110,10 +123,14 @@ module _ (words : List (List ℕ)) (files : List ℕ → Option (List ℕ)) (wat
       let front = given_front input s.given left' s.source in
       let after = s.by.1 in
       let fits : MOST_INPUT ≤ length s.given = omega (arith, s.by.0) in
-      let same : take MOST_INPUT s.given ≡ take MOST_INPUT input = sym (take-append-le MOST_INPUT s.given front.0 fits) ∙ ap (take MOST_INPUT) (sym front.1) in (
+      let same : take MOST_INPUT s.given ≡ take MOST_INPUT input =
+      sym (take-append-le MOST_INPUT s.given front.0 fits) ∙ ap (take MOST_INPUT) (sym front.1) in (
         s.took ++ waits,
         taken_then before taken' taken'' s.took waits s.sink handed,
-        whole.lines job asked (whole.answers_front after.ended after.line after.after after.refused (omega (arith, s.by.0, ap length front.1, length-append s.given front.0)) (subst (λ (i : List ℕ). EndsIn i after.ended after.line) same after.ends) after.answers (is ∙ ap end_with e)),
+        whole.lines job asked (whole.answers_front after.ended after.line after.after after.refused
+            (omega (arith, s.by.0, ap length front.1, length-append s.given front.0))
+            (subst (λ (i : List ℕ). EndsIn i after.ended after.line) same after.ends) after.answers
+            (is ∙ ap end_with e)),
       )
 
   -- ---- what stands written where a run was stopped
@@ -135,7 +152,10 @@ module _ (words : List (List ℕ)) (files : List ℕ → Option (List ℕ)) (wat
       let text_is : a.took ++ waits ≡ (a.took ++ front) ++ rest = ap (λ l. a.took ++ l) split ∙ sym (append_assoc a.took front rest) in (
         a.took ++ front,
         taken_then before taken' taken'' a.took front a.sink handed,
-        whole.begins_whole rest (end_of refused) (whole.lines job asked (subst (λ (i : List ℕ). whole.AnswersInput job i ((a.took ++ front) ++ rest) (end_of refused)) (sym all) (whole.answers_all a.text a.after refused a.fits a.answers (sym text_is ∙ a.closed) refl))),
+        whole.begins_whole rest (end_of refused)
+            (whole.lines job asked
+            (subst (λ (i : List ℕ). whole.AnswersInput job i ((a.took ++ front) ++ rest) (end_of refused)) (sym all)
+            (whole.answers_all a.text a.after refused a.fits a.answers (sym text_is ∙ a.closed) refl))),
       )
   begun_of each_in_job left' taken' taken'' waits front rest end (some_lines job fault asked s e) split handed =
       let given = given_front input s.given left' s.source in
@@ -203,7 +223,8 @@ ended_apart ended x is done refused (inl e) = done (sym is ∙ e)
 ended_apart ended x is done refused (inr e) = refused (sym is ∙ e)
 
 -- a run that comes to no line and is done has reported
-before_answered : (words : List (List ℕ)) (files : Option (List ℕ → Option (List ℕ))) (written : List ℕ) (ended : Ended) → EndedBefore words files written ended → IsAnswered ended → ReadsLines words → ⊥
+before_answered : (words : List (List ℕ)) (files : Option (List ℕ → Option (List ℕ))) (written : List ℕ)
+    (ended : Ended) → EndedBefore words files written ended → IsAnswered ended → ReadsLines words → ⊥
 before_answered words None written ended (inl before) answered reads = no_line before
   where
     no_line : IsBeforeLines ended → ⊥
@@ -215,9 +236,14 @@ before_answered words (Some files) written ended gives answered reads = by_end g
   where
     by_end : whole.EndsBefore words files written ended → IsAnswered ended → ⊥
     by_end (whole.no_job front rule behind compiles earlier (whole.long_text long is e)) answered = ended_apart ended Long e (λ h. cc) (λ h. cc) answered
-    by_end (whole.no_job front rule behind compiles earlier (whole.no_plan line fits (no_rules place at is e) ends)) answered = ended_apart ended BadDescription e (λ h. cc) (λ h. cc) answered
-    by_end (whole.no_job front rule behind compiles earlier (whole.no_plan line fits (rules_refused rules why place has why_not is e) ends)) answered = ended_apart ended BadDescription e (λ h. cc) (λ h. cc) answered
-    by_end (whole.no_job front rule behind compiles earlier (whole.no_plan line fits (not_certified rules d c has resolved first is e) ends)) answered = ended_apart ended NotCertified e (λ h. cc) (λ h. cc) answered
+    by_end (whole.no_job front rule behind compiles earlier (whole.no_plan line fits (no_rules place at is e) ends))
+        answered = ended_apart ended BadDescription e (λ h. cc) (λ h. cc) answered
+    by_end (whole.no_job front rule behind compiles earlier
+        (whole.no_plan line fits (rules_refused rules why place has why_not is e) ends)) answered =
+        ended_apart ended BadDescription e (λ h. cc) (λ h. cc) answered
+    by_end (whole.no_job front rule behind compiles earlier
+        (whole.no_plan line fits (not_certified rules d c has resolved first is e) ends)) answered =
+        ended_apart ended NotCertified e (λ h. cc) (λ h. cc) answered
     by_end (whole.reported report file name text reading rules d row held fits compiled is e) answered = reads (leaves_report report file name reading row)
     by_end (whole.soaked entry n rules d counts row fits compiled from is e) answered = reads (leaves_soak entry n row)
     by_end (whole.of_two old new name reading row ends) answered = reads (leaves_compat old new name reading row)
@@ -235,14 +261,16 @@ fault_answered TooLong (inr e) = cc
 
 -- the source has nothing left where all lines are answered
 pub nothing_left_of :
-    (words : List (List ℕ)) (files : Option (List ℕ → Option (List ℕ))) (watchers : List Watched) (left left' taken taken' : Option (List ℕ)) (waits : List ℕ) (end : Result Ended Fault)
+    (words : List (List ℕ)) (files : Option (List ℕ → Option (List ℕ))) (watchers : List Watched)
+    (left left' taken taken' : Option (List ℕ)) (waits : List ℕ) (end : Result Ended Fault)
     → JobEnds words files watchers left left' taken taken' waits end → IsAnswered (end_with end) → ReadsLines words → NothingLeft left'
 nothing_left_of words files watchers left left' taken taken' waits end (unread same_left same_taken none cause) answered reads =
     elim cause [
       | inl e ↦ absurd (fault_answered Read (subst (λ (r : Result Ended Fault). IsAnswered (end_with r)) e answered))
       | inr e ↦ absurd (fault_answered Memory (subst (λ (r : Result Ended Fault). IsAnswered (end_with r)) e answered))
     ]
-nothing_left_of words files watchers left left' taken taken' waits end (before_lines gives same_left same_taken) answered reads = absurd (before_answered words files waits (end_with end) gives answered reads)
+nothing_left_of words files watchers left left' taken taken' waits end (before_lines gives same_left same_taken)
+    answered reads = absurd (before_answered words files waits (end_with end) gives answered reads)
 nothing_left_of words files watchers left left' taken taken' waits end (all_lines job some asked a e) answered reads = a.nothing_left
 nothing_left_of words files watchers left left' taken taken' waits end (some_lines job fault asked s e) answered reads =
     absurd (fault_answered fault (subst (λ (r : Result Ended Fault). IsAnswered (end_with r)) e answered))
@@ -253,10 +281,12 @@ as_before whole rest e = let same : whole ≡ rest = cc in omega (arith, ap leng
 
 -- no more is taken of a source than a byte past its limit
 pub bounded_of :
-    (words : List (List ℕ)) (files : Option (List ℕ → Option (List ℕ))) (watchers : List Watched) (whole rest : List ℕ) (left' taken taken' : Option (List ℕ)) (waits : List ℕ) (end : Result Ended Fault)
+    (words : List (List ℕ)) (files : Option (List ℕ → Option (List ℕ))) (watchers : List Watched)
+    (whole rest : List ℕ) (left' taken taken' : Option (List ℕ)) (waits : List ℕ) (end : Result Ended Fault)
     → JobEnds words files watchers (Some whole) left' taken taken' waits end → left' ≡ Some rest → length whole ≤ length rest + MOST_INPUT + 1
 bounded_of words files watchers whole rest left' taken taken' waits end (unread same_left same_taken none cause) is = as_before whole rest (sym same_left ∙ is)
-bounded_of words files watchers whole rest left' taken taken' waits end (before_lines gives same_left same_taken) is = as_before whole rest (sym same_left ∙ is)
+bounded_of words files watchers whole rest left' taken taken' waits end (before_lines gives same_left same_taken) is =
+    as_before whole rest (sym same_left ∙ is)
 bounded_of words files watchers whole rest left' taken taken' waits end (all_lines job some asked a e) is =
     let none = given_all whole a.given left' a.source a.nothing_left in omega (arith, ap length none, a.fits)
 bounded_of words files watchers whole rest left' taken taken' waits end (some_lines job fault asked s e) is =
@@ -268,7 +298,8 @@ bounded_of words files watchers whole rest left' taken taken' waits end (some_li
 
 -- it leaves the source alone
 pub untouched :
-    {S : Type 0} (known : KnownOfTexts) (words : List (List ℕ)) (files : List ℕ → Option (List ℕ)) (watchers : List Watched) (written : List ℕ) (ended : Ended) (old new : S)
+    {S : Type 0} (known : KnownOfTexts) (words : List (List ℕ)) (files : List ℕ → Option (List ℕ))
+    (watchers : List Watched) (written : List ℕ) (ended : Ended) (old new : S)
     → whole.EndsBefore words files written ended
     → (new ≡ old) ⊎ (ReadsLines words × (job : LineJob) × Asked words (Some files) watchers job) → new ≡ old
 untouched known words files watchers written ended old new before (inl same) = same
@@ -281,7 +312,8 @@ appended_none None taken' h = h
 appended_none (Some t) taken' h = h ∙ ap Some (append-nil t)
 
 -- a sink takes nothing where nothing waits
-pub nothing_taken : (taken taken' taken'' : Option (List ℕ)) (waits front rest : List ℕ) → taken' ≡ taken → waits ≡ [] → waits ≡ front ++ rest → Appended taken' taken'' front → taken'' ≡ taken
+pub nothing_taken : (taken taken' taken'' : Option (List ℕ)) (waits front rest : List ℕ)
+    → taken' ≡ taken → waits ≡ [] → waits ≡ front ++ rest → Appended taken' taken'' front → taken'' ≡ taken
 nothing_taken taken taken' taken'' waits front rest same none split handed =
     appended_none taken' taken'' (subst (λ (t : List ℕ). Appended taken' taken'' t) (no_front front rest (sym split ∙ none)) handed) ∙ same
 
@@ -327,7 +359,8 @@ unwritten_ends end ended e unless = stopped Write (inr (inl refl)) end ended e u
 abbrev pub OnlyBy : Ended → Type 0
 OnlyBy x = (x ≡ Done → ⊥) × (x ≡ SomeRefused → ⊥) × (x ≡ BadDescription → ⊥) × (x ≡ NotCertified → ⊥) × (x ≡ Long → ⊥)
 
-before_apart : (words : List (List ℕ)) (files : Option (List ℕ → Option (List ℕ))) (written : List ℕ) (ended : Ended) → EndedBefore words files written ended → OnlyBy ended → ⊥
+before_apart : (words : List (List ℕ)) (files : Option (List ℕ → Option (List ℕ))) (written : List ℕ) (ended : Ended)
+    → EndedBefore words files written ended → OnlyBy ended → ⊥
 before_apart words None written ended (inl (inl e)) only = only.2 e
 before_apart words None written ended (inl (inr (inl e))) only = only.3 e
 before_apart words None written ended (inl (inr (inr e))) only = only.4 e
@@ -347,7 +380,8 @@ before_apart words (Some files) written ended gives only = by_end gives
 
 -- a job that ends so met a fault
 pub by_fault :
-    {words : List (List ℕ)} {files : Option (List ℕ → Option (List ℕ))} {watchers : List Watched} {left left' taken taken' : Option (List ℕ)} {waits : List ℕ} (end : Result Ended Fault) (x : Ended)
+    {words : List (List ℕ)} {files : Option (List ℕ → Option (List ℕ))} {watchers : List Watched}
+    {left left' taken taken' : Option (List ℕ)} {waits : List ℕ} (end : Result Ended Fault) (x : Ended)
     → JobEnds words files watchers left left' taken taken' waits end → end_with end ≡ x → OnlyBy x
     → (fault : Fault) × (end ≡ Err fault) × (end_by fault ≡ x)
 by_fault end x (unread same_left same_taken none (inl e)) is only = (Read, e, sym (ap end_with e) ∙ is)
@@ -361,7 +395,9 @@ by_fault end x (all_lines job refused asked a e) is only = absurd (answered refu
     answered false same = only.0 (sym same)
 by_fault end x (some_lines job fault asked s e) is only = (fault, e, sym (ap end_with e) ∙ is)
 
-pub not_usage : {words : List (List ℕ)} {files : Option (List ℕ → Option (List ℕ))} {watchers : List Watched} {left left' taken taken' : Option (List ℕ)} {waits : List ℕ} (end : Result Ended Fault) → JobEnds words files watchers left left' taken taken' waits end → end_with end ≡ Usage → ⊥
+pub not_usage : {words : List (List ℕ)} {files : Option (List ℕ → Option (List ℕ))} {watchers : List Watched}
+    {left left' taken taken' : Option (List ℕ)} {waits : List ℕ} (end : Result Ended Fault)
+    → JobEnds words files watchers left left' taken taken' waits end → end_with end ≡ Usage → ⊥
 not_usage end ends is = no_fault by.0 by.2
   where
     by : (fault : Fault) × (end ≡ Err fault) × (end_by fault ≡ Usage)
@@ -387,15 +423,22 @@ fault_back Memory = refl
 fault_back TooLong = refl
 
 -- a job that ends as a fault ends it met this fault
-stopped_by : {words : List (List ℕ)} {files : Option (List ℕ → Option (List ℕ))} {watchers : List Watched} {left left' taken taken' : Option (List ℕ)} {waits : List ℕ} (end : Result Ended Fault) (fault : Fault) → JobEnds words files watchers left left' taken taken' waits end → end_with end ≡ end_by fault → OnlyBy (end_by fault) → end ≡ Err fault
+stopped_by : {words : List (List ℕ)} {files : Option (List ℕ → Option (List ℕ))} {watchers : List Watched}
+    {left left' taken taken' : Option (List ℕ)} {waits : List ℕ} (end : Result Ended Fault) (fault : Fault)
+    → JobEnds words files watchers left left' taken taken' waits end → end_with end ≡ end_by fault
+    → OnlyBy (end_by fault) → end ≡ Err fault
 stopped_by end fault ends is only =
     let by : (other : Fault) × (end ≡ Err other) × (end_by other ≡ end_by fault) = by_fault end (end_by fault) ends is only in
     by.1 ∙ ap Err (sym (fault_back by.0) ∙ ap fault_of by.2 ∙ fault_back fault)
 
-pub read_stopped : {words : List (List ℕ)} {files : Option (List ℕ → Option (List ℕ))} {watchers : List Watched} {left left' taken taken' : Option (List ℕ)} {waits : List ℕ} (end : Result Ended Fault) → JobEnds words files watchers left left' taken taken' waits end → end_with end ≡ ReadFault → end ≡ Err Read
+pub read_stopped : {words : List (List ℕ)} {files : Option (List ℕ → Option (List ℕ))} {watchers : List Watched}
+    {left left' taken taken' : Option (List ℕ)} {waits : List ℕ} (end : Result Ended Fault)
+    → JobEnds words files watchers left left' taken taken' waits end → end_with end ≡ ReadFault → end ≡ Err Read
 read_stopped end ends is = stopped_by end Read ends is ((λ h. cc), (λ h. cc), (λ h. cc), (λ h. cc), (λ h. cc))
 
-pub write_stopped : {words : List (List ℕ)} {files : Option (List ℕ → Option (List ℕ))} {watchers : List Watched} {left left' taken taken' : Option (List ℕ)} {waits : List ℕ} (end : Result Ended Fault) → JobEnds words files watchers left left' taken taken' waits end → end_with end ≡ WriteFault → end ≡ Err Write
+pub write_stopped : {words : List (List ℕ)} {files : Option (List ℕ → Option (List ℕ))} {watchers : List Watched}
+    {left left' taken taken' : Option (List ℕ)} {waits : List ℕ} (end : Result Ended Fault)
+    → JobEnds words files watchers left left' taken taken' waits end → end_with end ≡ WriteFault → end ≡ Err Write
 write_stopped end ends is = stopped_by end Write ends is ((λ h. cc), (λ h. cc), (λ h. cc), (λ h. cc), (λ h. cc))
 
 -- ---- every end is one of these
@@ -418,8 +461,10 @@ pub finished_no_memory : (ended : Ended) → whole.IsFinished ended → ended �
 finished_no_memory ended h e = subst whole.IsFinished e h
 
 -- a sink that took the front of what waited, where nothing stands behind it, took all
-pub handed_all : (taken taken' : Option (List ℕ)) (waits front rest : List ℕ) → waits ≡ front ++ rest → Appended taken taken' front → rest ≡ [] → Appended taken taken' waits
-handed_all taken taken' waits front rest split handed none = subst (λ (t : List ℕ). Appended taken taken' t) (sym (split ∙ ap (λ l. front ++ l) none ∙ append-nil front)) handed
+pub handed_all : (taken taken' : Option (List ℕ)) (waits front rest : List ℕ)
+    → waits ≡ front ++ rest → Appended taken taken' front → rest ≡ [] → Appended taken taken' waits
+handed_all taken taken' waits front rest split handed none = subst (λ (t : List ℕ). Appended taken taken' t)
+    (sym (split ∙ ap (λ l. front ++ l) none ∙ append-nil front)) handed
 
 -- a job that ends as no fault does
 pub ok_of : (end : Result Ended Fault) (x : Ended) → end_with end ≡ x → ((fault : Fault) → end_by fault ≡ x → ⊥) → end ≡ Ok x

@@ -57,7 +57,8 @@ EndedBefore words (Some files) written ended = EndsBefore words files written en
 
 -- the job that the words ask for, with these watchers, is over with `end`: `left` and `taken` are what the source has
 -- left and the sink has taken before it, `left'` and `taken'` after it, and `waits` is what the sink is still to take
-pub data JobEnds (words : List (List ℕ)) (files : Option (List ℕ → Option (List ℕ))) (watchers : List Watched) (left left' taken taken' : Option (List ℕ)) (waits : List ℕ) (end : Result Ended Fault) : Type 0 where
+pub data JobEnds (words : List (List ℕ)) (files : Option (List ℕ → Option (List ℕ))) (watchers : List Watched)
+    (left left' taken taken' : Option (List ℕ)) (waits : List ℕ) (end : Result Ended Fault) : Type 0 where
   -- nothing was read of the input, and nothing written
   unread : left' ≡ left → taken' ≡ taken → waits ≡ [] → (end ≡ Err Read) ⊎ (end ≡ Err Memory)
       → JobEnds words files watchers left left' taken taken' waits end
@@ -72,7 +73,9 @@ pub data JobEnds (words : List (List ℕ)) (files : Option (List ℕ → Option 
 
 -- what a job does with its source and its sink, where `comes` holds of one that comes to its lines: before that it leaves
 -- the source alone. That it could not read may be the fault of a file
-pub record LeavesStreams {Source : Type 0} (end : Result Ended Fault) (source source' : Source) (comes : Type 0) (steady steady' : Type 0) (faults faults' : ℕ) (sink_steady sink_steady' : Type 0) (sink_faults sink_faults' : ℕ) : Type 0 where
+pub record LeavesStreams {Source : Type 0} (end : Result Ended Fault) (source source' : Source) (comes : Type 0)
+    (steady steady' : Type 0) (faults faults' : ℕ) (sink_steady sink_steady' : Type 0)
+    (sink_faults sink_faults' : ℕ) : Type 0 where
   pub touches : (source' ≡ source) ⊎ comes
   pub before_lines : (end ≡ Ok BadDescription) ⊎ (end ≡ Ok NotCertified) → source' ≡ source
   pub write : end ≡ Err Write → Rose sink_faults sink_faults'
@@ -81,7 +84,9 @@ pub record LeavesStreams {Source : Type 0} (end : Result Ended Fault) (source so
 
 -- what the job of these words does with the shelf: it asks for the files that they name and for no others, and where it
 -- comes to one that is told as not held, `lacking` holds
-pub record AsksFiles {Shelf : Type 0} (words : List (List ℕ)) (gives : Shelf → List ℕ → Result (Vec ℕ Global) ShelfFault → Shelf → Type 0) (files : Option (List ℕ → Option (List ℕ))) (shelf shelf' : Shelf) (lacking : Type 0) : Type 0 where
+pub record AsksFiles {Shelf : Type 0} (words : List (List ℕ)) (gives : Shelf → List ℕ → Result (Vec ℕ Global)
+    ShelfFault → Shelf → Type 0) (files : Option (List ℕ → Option (List ℕ))) (shelf shelf' : Shelf)
+    (lacking : Type 0) : Type 0 where
   pub no_file : ((file : List ℕ) → NamesFile words file → ⊥) → shelf' ≡ shelf
   pub fetched : (names : List (List ℕ)) → NamesFiles words names → LeftByFetches gives names shelf shelf'
   pub missing : (file : List ℕ) → ComesTo words files file → LacksFile files file → lacking

@@ -14,7 +14,8 @@ ghost use Rattle.csn_lines.specs.LineState.{closing_of, nothing_kept};
 ghost use Rattle.csn_lines.specs.OutLine.{Works, by_plan};
 ghost use Rattle.csn_run.specs.Outside.{CannotRead, LeftByFetch, LeftByFetches};
 ghost use Rattle.csn_run.specs.Job.{Asked, AsksFiles, ComesTo, EndsUnread, JobEnds, LeavesStreams, end_with};
-ghost use Rattle.csn_run.specs.Result.{AnswersPromptly, BeginsResult, EndsBefore, IsFinished, IsStopped, OldBlocksStay, Result, RulesHaveOneTree, StopsReading};
+ghost use Rattle.csn_run.specs.Result.{AnswersPromptly, BeginsResult, EndsBefore, IsFinished, IsStopped};
+ghost use Rattle.csn_run.specs.Result.{OldBlocksStay, Result, RulesHaveOneTree, StopsReading};
 ghost use Rattle.csn_lines.specs.Jobs.{LineJob};
 
 use crate::comparing::compare_files;
@@ -73,7 +74,8 @@ fn answer_by_plan<S: Source, K: Sink>(
 ) -> Result<Ended, Fault>
     requires ready { IsReady lines.old }
     ensures ok { IfOk result (λ ended. AnswersAll (Works (by_plan command plan.now)) closing_of nothing_kept
-        (S.left input.old) (S.left input.new) (K.taken out.old) (K.taken out.new) lines.new.pending.items lines.new.refused × (ended ≡ end_of lines.new.refused)) }
+        (S.left input.old) (S.left input.new) (K.taken out.old) (K.taken out.new)
+        lines.new.pending.items lines.new.refused × (ended ≡ end_of lines.new.refused)) }
     ensures err { IfErr result (λ fault. Stops (Works (by_plan command plan.now)) nothing_kept fault
         (S.left input.old) (S.left input.new) (K.taken out.old) (K.taken out.new) lines.new.pending.items) }
     ensures blames { BlamesStreams result (S.steady input.old) (S.steady input.new) (S.faults input.old) (S.faults input.new)

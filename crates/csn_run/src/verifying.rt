@@ -108,7 +108,8 @@ pub fn verify_file<B: Shelf>(
     ensures ends { (words : List (List ℕ)) → IsVerify words rule.entry.file.now rule.entry.name.now rule.entry.reading certificate.now
         → (watchers : List Watched) (left taken : Option (List ℕ))
         → JobEnds words (B.files shelf.old) watchers left left taken taken pending.new.items result }
-    ensures read { result ≡ Err Fault.Read → (words : List (List ℕ)) → IsVerify words rule.entry.file.now rule.entry.name.now rule.entry.reading certificate.now
+    ensures read { result ≡ Err Fault.Read → (words : List (List ℕ))
+        → IsVerify words rule.entry.file.now rule.entry.name.now rule.entry.reading certificate.now
         → (file : List ℕ) × ComesTo words (B.files shelf.old) file
         × CannotRead (B.files shelf.old) (B.faults shelf.old) (B.faults shelf.new) (B.last_fault shelf.new) file }
     ensures not_write { result ≢ Err Fault.Write }

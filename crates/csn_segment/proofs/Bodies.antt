@@ -1,5 +1,7 @@
 -- The bodies that wait behind one more segment.
-use Rattle.std.proofs.Common.{◌≡◌, ◌≢◌, ℕ, zero, suc, ◌<◌, ◌==◌, ◌&&◌, Bool, true, false, cond, eqb-true, eq-eqb, List, [], ◌∷◌, ◌++◌, map, length, set, get_or, take, drop, ◌-◌, slice_get, option_map, option_and_then, Option, Some, None, refl, sym, ap, ◌∙◌, arith}
+use Rattle.std.proofs.Common.{◌≡◌, ◌≢◌, ℕ, zero, suc, ◌<◌, ◌==◌, ◌&&◌, Bool, true, false, cond, eqb-true, eq-eqb}
+use Rattle.std.proofs.Common.{List, [], ◌∷◌, ◌++◌, map, length, set, get_or, take, drop, ◌-◌, slice_get, option_map}
+use Rattle.std.proofs.Common.{option_and_then, Option, Some, None, refl, sym, ap, ◌∙◌, arith}
 use Rattle.std.proofs.lemmas.Bool.{eqb-false}
 use Rattle.std.proofs.lemmas.List.{map-set, length-map, length-drop, take_all}
 use Rattle.std.proofs.lemmas.Option.{slice_get-map, slice_get_within, slice_get-get_or, same_Some}
@@ -65,7 +67,8 @@ module _ (blocks : List (List ℕ)) (block : List ℕ) where
         is_segment (rti_of block) ∙ ap (λ b. b && counts (segment_of block)) (eq-eqb (rti_of block) (rti_of block) refl) ∙ ap counts e
 
     -- in its own transaction
-    waits_own : (s : Segment) → segment_of block ≡ s → waiting (blocks ++ block ∷ []) (rti_of block) ≡ kept_after s (waiting blocks (rti_of block)) (body_of block)
+    waits_own : (s : Segment) → segment_of block ≡ s → waiting (blocks ++ block ∷ []) (rti_of block) ≡ kept_after s
+        (waiting blocks (rti_of block)) (body_of block)
     waits_own Only e = counted (rti_of block) (is_counted Only e) ∙ ap (λ s. body_of_first s (body_of block)) e
     waits_own First e = counted (rti_of block) (is_counted First e) ∙ ap (λ s. body_of_first s (body_of block)) e
     waits_own Second e = counted (rti_of block) (is_counted Second e) ∙ ap (λ s. body_of_first s (body_of block)) e
@@ -99,7 +102,9 @@ module _ (blocks : List (List ℕ)) (block : List ℕ) where
             ∙ sym (waits_own (segment_of block) refl)
             ∙ ap (waiting (blocks ++ block ∷ [])) (sym is)
 
-        at : (rti : ℕ) → rti < transactions → (b : Bool) → (rti_of block == rti) ≡ b → slice_get (map octets_of (set bodies i new)) rti ≡ Some (waiting (blocks ++ block ∷ []) rti)
+        at : (rti : ℕ) → rti < transactions → (b : Bool)
+            → (rti_of block == rti) ≡ b → slice_get (map octets_of (set bodies i new)) rti ≡ Some
+            (waiting (blocks ++ block ∷ []) rti)
         at rti below true same =
             let here : i ≡ rti = is ∙ eqb-true (rti_of block) rti same in
             ap (slice_get (map octets_of (set bodies i new))) (sym here)

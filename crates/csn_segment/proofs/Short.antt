@@ -1,5 +1,6 @@
 -- A message is short.
-use Rattle.std.proofs.Common.{◌≡◌, ℕ, ◌≤◌, eqb, refl, [], true, false, inl, inr, Bool, List, ◌∷◌, length, Option, Some, None, reverse, find, subst, arith, length-append, length-drop}
+use Rattle.std.proofs.Common.{◌≡◌, ℕ, ◌≤◌, eqb, refl, [], true, false, inl, inr, Bool, List, ◌∷◌, length, Option}
+use Rattle.std.proofs.Common.{Some, None, reverse, find, subst, arith, length-append, length-drop}
 use Rattle.std.proofs.lemmas.Bool.{cases_Bool}
 use Rattle.csn_segment.specs.declared.header.PayloadType.{PayloadType}
 use Rattle.csn_segment.specs.declared.header.PayloadType.TheVariants.{Data, Control, SegmentedControl, Reserved}
@@ -43,9 +44,12 @@ waiting_short blocks rti body e = go (last_segment blocks rti) refl
   where
     go : (o : Option (List ℕ)) → last_segment blocks rti ≡ o → length body ≤ 21
     go None is = absurd (let clash : None ≡ Some body = (rw is at e) in cc)
-    go (Some block) is = first_short block body (segment_of block) (segment_length rti block (found_passes (is_segment_of rti) (reverse blocks) block is)) (rw is at e)
+    go (Some block) is = first_short block body (segment_of block)
+        (segment_length rti block (found_passes (is_segment_of rti) (reverse blocks) block is)) (rw is at e)
 
-segment_short : (s : Segment) (rti : ℕ) (first : Option (List ℕ)) (body : List ℕ) → ((b : List ℕ) → first ≡ Some b → length b ≤ 21) → length body ≤ 21 → IsShort (answer_to_segment s rti first body)
+segment_short : (s : Segment) (rti : ℕ) (first : Option (List ℕ)) (body : List ℕ)
+    → ((b : List ℕ) → first ≡ Some b → length b ≤ 21)
+    → length body ≤ 21 → IsShort (answer_to_segment s rti first body)
 segment_short Only rti first body waits few = omega (arith, few)
 segment_short First rti first body waits few = tt
 segment_short NotFinal rti first body waits few = tt
@@ -56,7 +60,8 @@ payload_short : (payload : PayloadType) (earlier : List (List ℕ)) (block : Lis
 payload_short Data earlier block is = tt
 payload_short Reserved earlier block is = tt
 payload_short Control earlier block is = omega (arith, is, length-drop 1 block)
-payload_short SegmentedControl earlier block is = segment_short (segment_of block) (rti_of block) (waiting earlier (rti_of block)) (body_of block) (waiting_short earlier (rti_of block)) (body_short block is)
+payload_short SegmentedControl earlier block is = segment_short (segment_of block) (rti_of block)
+    (waiting earlier (rti_of block)) (body_of block) (waiting_short earlier (rti_of block)) (body_short block is)
 
 pub messages_are_short : MessagesAreShort
 messages_are_short earlier block = elim (cases_Bool (eqb (length block) 23)) [

@@ -1,5 +1,6 @@
 -- What the blocks of one downlink give: control messages in one block, or in two (3GPP TS 44.060, clauses 10.3 and 10.4).
-use Rattle.std.specs.Prelude.{◌≡◌, ℕ, ◌<◌, Bool, true, false, ◌==◌, ◌&&◌, if◌then◌else◌, List, ◌++◌, length, slice_get, drop, reverse, find, Option, Some, None, option_and_then}
+use Rattle.std.specs.Prelude.{◌≡◌, ℕ, ◌<◌, Bool, true, false, ◌==◌, ◌&&◌, if◌then◌else◌, List, ◌++◌, length}
+use Rattle.std.specs.Prelude.{slice_get, drop, reverse, find, Option, Some, None, option_and_then}
 use Rattle.csn_segment.specs.declared.header.PayloadType.{PayloadType}
 use Rattle.csn_segment.specs.declared.header.PayloadType.TheVariants.{Data, Control, SegmentedControl, Reserved}
 use Rattle.csn_segment.specs.declared.header.Segment.{Segment}

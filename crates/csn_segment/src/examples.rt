@@ -1,5 +1,7 @@
 //! Worked examples of the definitions, each a clause of a function that does nothing.
-ghost use Rattle.csn_segment.specs.Examples.{HeadersAreRead, AddressesAreLeftOut, FirstThenSecond, SecondThenFirst, SecondTwice, FirstReplaced, TransactionsBetween, PutAside, OneBlockBetween};
+ghost use Rattle.csn_segment.specs.Examples.{HeadersAreRead, AddressesAreLeftOut, FirstThenSecond, SecondThenFirst};
+ghost use Rattle.csn_segment.specs.Examples.{SecondTwice, FirstReplaced, TransactionsBetween, PutAside};
+ghost use Rattle.csn_segment.specs.Examples.{OneBlockBetween};
 
 /// What a few blocks give behind others.
 pub fn worked_examples()

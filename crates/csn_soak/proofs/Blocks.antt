@@ -1,5 +1,6 @@
 -- The blocks of the generator, one more at a time.
-use Rattle.std.proofs.Common.{◌≡◌, ◌↔◌, ℕ, zero, suc, ◌+◌, ◌*◌, ◌<◌, ◌≤◌, Bool, true, false, if◌then◌else◌, IsTrue, List, ◌++◌, length, take, drop, refl, sym, subst, arith}
+use Rattle.std.proofs.Common.{◌≡◌, ◌↔◌, ℕ, zero, suc, ◌+◌, ◌*◌, ◌<◌, ◌≤◌, Bool, true, false, if◌then◌else◌, IsTrue}
+use Rattle.std.proofs.Common.{List, ◌++◌, length, take, drop, refl, sym, subst, arith}
 use Rattle.std.specs.Int.{to_be_bytes, w64}
 use Rattle.csn_bits.specs.Octets.{bits_of_octets}
 use Rattle.csn_catalogue.specs.declared.entry.Entry.{Entry}
@@ -12,36 +13,78 @@ use Rattle.csn_soak.specs.Soaking.{IsString, Counted, one_more, no_more, bits_in
 
 -- a number in the field does not change how many bits a sample has, nor its first one
 pub as_long : (entry : Entry) (x : ℕ) → length (sample_with entry x) ≡ 8 * length (sample_octets entry)
-as_long entry x = elim entry as (λ e. length (sample_with e x) ≡ 8 * length (sample_octets e)) [ Uplink ↦ refl | Downlink ↦ refl | Si1 ↦ refl | Si3 ↦ refl | Si4 ↦ refl | Si13 ↦ refl | Ia ↦ refl ]
+as_long entry x = elim entry as (λ e. length (sample_with e x) ≡ 8 * length (sample_octets e))
+    [ Uplink ↦ refl | Downlink ↦ refl | Si1 ↦ refl | Si3 ↦ refl | Si4 ↦ refl | Si13 ↦ refl | Ia ↦ refl ]
 
 pub first_stays : (entry : Entry) (x : ℕ) → take 1 (sample_with entry x) ≡ take 1 (sample_bits entry)
-first_stays entry x = elim entry as (λ e. take 1 (sample_with e x) ≡ take 1 (sample_bits e)) [ Uplink ↦ refl | Downlink ↦ refl | Si1 ↦ refl | Si3 ↦ refl | Si4 ↦ refl | Si13 ↦ refl | Ia ↦ refl ]
+first_stays entry x = elim entry as (λ e. take 1 (sample_with e x) ≡ take 1 (sample_bits e))
+    [ Uplink ↦ refl | Downlink ↦ refl | Si1 ↦ refl | Si3 ↦ refl | Si4 ↦ refl | Si13 ↦ refl | Ia ↦ refl ]
 
 pub cut_long : (entry : Entry) (x : ℕ) → length (take 1 (sample_with entry x)) ≡ 1
-cut_long entry x = elim entry as (λ e. length (take 1 (sample_with e x)) ≡ 1) [ Uplink ↦ refl | Downlink ↦ refl | Si1 ↦ refl | Si3 ↦ refl | Si4 ↦ refl | Si13 ↦ refl | Ia ↦ refl ]
+cut_long entry x = elim entry as (λ e. length (take 1 (sample_with e x)) ≡ 1)
+    [ Uplink ↦ refl | Downlink ↦ refl | Si1 ↦ refl | Si3 ↦ refl | Si4 ↦ refl | Si13 ↦ refl | Ia ↦ refl ]
 
 pub few_octets : (entry : Entry) → length (sample_octets entry) ≤ 22
-few_octets entry = elim entry as (λ e. length (sample_octets e) ≤ 22) [ Uplink ↦ omega arith | Downlink ↦ omega arith | Si1 ↦ omega arith | Si3 ↦ omega arith | Si4 ↦ omega arith | Si13 ↦ omega arith | Ia ↦ omega arith ]
+few_octets entry = elim entry as (λ e. length (sample_octets e) ≤ 22) [
+  | Uplink ↦ omega arith
+  | Downlink ↦ omega arith
+  | Si1 ↦ omega arith
+  | Si3 ↦ omega arith
+  | Si4 ↦ omega arith
+  | Si13
+      ↦ omega arith
+  | Ia ↦ omega arith
+]
 
 -- a field has some bits, and stands near the front
 pub some_bits : (entry : Entry) → 0 < field_width entry
-some_bits entry = elim entry as (λ e. 0 < field_width e) [ Uplink ↦ omega arith | Downlink ↦ omega arith | Si1 ↦ omega arith | Si3 ↦ omega arith | Si4 ↦ omega arith | Si13 ↦ omega arith | Ia ↦ omega arith ]
+some_bits entry = elim entry as (λ e. 0 < field_width e) [
+  | Uplink ↦ omega arith
+  | Downlink ↦ omega arith
+  | Si1 ↦ omega arith
+  | Si3 ↦ omega arith
+  | Si4 ↦ omega arith
+  | Si13
+      ↦ omega arith
+  | Ia ↦ omega arith
+]
 
 pub narrow : (entry : Entry) → field_width entry ≤ 32
-narrow entry = elim entry as (λ e. field_width e ≤ 32) [ Uplink ↦ omega arith | Downlink ↦ omega arith | Si1 ↦ omega arith | Si3 ↦ omega arith | Si4 ↦ omega arith | Si13 ↦ omega arith | Ia ↦ omega arith ]
+narrow entry = elim entry as (λ e. field_width e ≤ 32) [
+  | Uplink ↦ omega arith
+  | Downlink ↦ omega arith
+  | Si1 ↦ omega arith
+  | Si3 ↦ omega arith
+  | Si4 ↦ omega arith
+  | Si13
+      ↦ omega arith
+  | Ia ↦ omega arith
+]
 
 pub near : (entry : Entry) → field_at entry + field_width entry ≤ 64
-near entry = elim entry as (λ e. field_at e + field_width e ≤ 64) [ Uplink ↦ omega arith | Downlink ↦ omega arith | Si1 ↦ omega arith | Si3 ↦ omega arith | Si4 ↦ omega arith | Si13 ↦ omega arith | Ia ↦ omega arith ]
+near entry = elim entry as (λ e. field_at e + field_width e ≤ 64) [
+  | Uplink ↦ omega arith
+  | Downlink ↦ omega arith
+  | Si1 ↦ omega arith
+  | Si3 ↦ omega arith
+  | Si4 ↦ omega arith
+  | Si13
+      ↦ omega arith
+  | Ia ↦ omega arith
+]
 
 -- how a block is made of its sample
-made_if : (entry : Entry) (x : ℕ) (cut : Bool) → (if cut then take 1 (sample_bits entry) else sample_with entry x) ≡ (if cut then take 1 (sample_with entry x) else sample_with entry x)
+made_if : (entry : Entry) (x : ℕ) (cut : Bool)
+    → (if cut then take 1 (sample_bits entry) else sample_with entry x) ≡ (if cut then take 1 (sample_with entry x)
+    else sample_with entry x)
 made_if entry x true = sym (first_stays entry x)
 made_if entry x false = refl
 
 pub made : (entry : Entry) (k : ℕ) → (if is_cut k then take 1 (sample_bits entry) else sample_with entry (number (suc k))) ≡ block entry k
 made entry k = made_if entry (number (suc k)) (is_cut k)
 
-long_if : (entry : Entry) (x : ℕ) (cut : Bool) → (if cut then 1 else 8 * length (sample_octets entry)) ≡ length (if cut then take 1 (sample_with entry x) else sample_with entry x)
+long_if : (entry : Entry) (x : ℕ) (cut : Bool) → (if cut then 1 else 8 * length (sample_octets entry)) ≡ length
+    (if cut then take 1 (sample_with entry x) else sample_with entry x)
 long_if entry x true = sym (cut_long entry x)
 long_if entry x false = sym (as_long entry x)
 

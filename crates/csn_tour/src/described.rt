@@ -43,7 +43,8 @@ pub fn plan(alloc: Global, text: &str) -> Result<Plan, TourFault>
 
 /// Whether every block of an old description has a tree by a new one, as csn_compat sees it.
 pub fn takes_old_blocks(alloc: Global, old: &str, new: &str) -> Result<bool, TourFault>
-    ensures { IfOk result (λ taken. IsTrue taken → (was : DescV) × (now : DescV) × Describes Reading.Received old.now was × Describes Reading.Received new.now now × TakesStrings was now) }
+    ensures { IfOk result (λ taken. IsTrue taken → (was : DescV) × (now : DescV)
+        × Describes Reading.Received old.now was × Describes Reading.Received new.now now × TakesStrings was now) }
 {
     let old = description(alloc, old, Reading::Received)?;
     let new = description(alloc, new, Reading::Received)?;

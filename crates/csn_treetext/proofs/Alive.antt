@@ -1,6 +1,8 @@
 -- What a state stands for begins the text of some tree.
 use Rattle.std.specs.Prelude.{slice_index, replicate}
-use Rattle.std.proofs.Common.{◌≡◌, ℕ, zero, suc, ◌+◌, ◌-◌, ◌*◌, ◌/◌, ◌%◌, ◌<◌, ◌≤◌, List, [], ◌∷◌, ◌++◌, length, Option, Some, None, refl, sym, ap, ◌∙◌, subst, arith, append_assoc, append-nil, length-append}
+use Rattle.std.proofs.Common.{◌≡◌, ℕ, zero, suc, ◌+◌, ◌-◌, ◌*◌, ◌/◌, ◌%◌, ◌<◌, ◌≤◌, List, [], ◌∷◌, ◌++◌, length}
+use Rattle.std.proofs.Common.{Option, Some, None, refl, sym, ap, ◌∙◌, subst, arith, append_assoc, append-nil}
+use Rattle.std.proofs.Common.{length-append}
 use Rattle.std.proofs.lemmas.List.{length-replicate}
 use Rattle.std.specs.Fmt.{decimal}
 use Rattle.std.proofs.lemmas.List.{map-append, length_push}
@@ -25,7 +27,8 @@ use Rattle.csn_treetext.specs.reader.Numeral.{greatest_of}
 use Rattle.csn_treetext.specs.reader.Machine.{state, AreOctets, AreDigits, cut_octets}
 use Rattle.csn_treetext.proofs.Names.{closed_label}
 use Rattle.csn_treetext.proofs.OctetLeaves.{encode_upper-push, long_is_other, cut_text}
-use Rattle.csn_treetext.proofs.Spelled.{spaced, before, behind, high_text, IsTree, AreTrees-push, IsStack, HasTree, StandsFor, level_low, row_is_tree, spaced-push}
+use Rattle.csn_treetext.proofs.Spelled.{spaced, before, behind, high_text, IsTree, AreTrees-push, IsStack, HasTree}
+use Rattle.csn_treetext.proofs.Spelled.{StandsFor, level_low, row_is_tree, spaced-push}
 use Rattle.csn_treetext.proofs.WholeTrees.{number_text, number_is_tree, cut_is_tree}
 use Rattle.csn_treetext.proofs.LeafSteps.{AreOctets-push}
 
@@ -35,7 +38,9 @@ as_begun : {version : Version} {a b : List ℕ} → a ≡ b → BeginsText versi
 as_begun {version} same is = subst (λ l. BeginsText version l) same is
 
 -- where the text of a tree begins with some bytes, these begin a text behind what stands before the tree
-pub ends : (version : Version) (stack : List Frame) (t : TreeV) (x y : List ℕ) → IsStack stack → IsTree (length stack) t → text_of version t ≡ x ++ y → BeginsText version (before version stack ++ x)
+pub ends : (version : Version) (stack : List Frame) (t : TreeV) (x y : List ℕ)
+    → IsStack stack → IsTree (length stack) t → text_of version t ≡ x ++ y
+    → BeginsText version (before version stack ++ x)
 ends version [] t x y h is text = (t, y, record { fits = is.fits; parts = is.parts; spelled = sym text })
 ends version (Row ts ∷ stack) t x y h is text =
     let trees : List TreeV = ts ++ t ∷ [] in
@@ -98,7 +103,8 @@ unfolding encode_with
 encode_upper-append [] b = refl
 encode_upper-append (o ∷ a) b = ap (λ l. slice_index upper_digits (o / 16) ∷ slice_index upper_digits (o % 16) ∷ l) (encode_upper-append a b)
 
-octets_begin : (stack : List Frame) (octets : List ℕ) → IsStack stack → AreOctets octets → length octets ≤ MOST_OCTETS → (x y : List ℕ) → encode_upper octets ≡ x ++ y → BeginsText Second (before Second stack ++ 120 ∷ x)
+octets_begin : (stack : List Frame) (octets : List ℕ) → IsStack stack → AreOctets octets → length octets ≤ MOST_OCTETS
+    → (x y : List ℕ) → encode_upper octets ≡ x ++ y → BeginsText Second (before Second stack ++ 120 ∷ x)
 unfolding pad
 octets_begin stack octets h are few x y text =
     let (many, small) = length-pad octets few in
@@ -110,7 +116,8 @@ octets_begin stack octets h are few x y text =
     ∙ ap (λ l. 120 ∷ l) (append-nil (encode_upper (pad octets)) ∙ encode_upper-append octets (replicate (9 - length octets) 0)
     ∙ ap (λ l. l ++ zeros) text ∙ append_assoc x y zeros))
 
-digits_begin : (stack : List Frame) (octets : List ℕ) (high : Option ℕ) → IsStack stack → AreOctets octets → AreDigits octets high → BeginsText Second (before Second stack ++ 120 ∷ (encode_upper octets ++ high_text high))
+digits_begin : (stack : List Frame) (octets : List ℕ) (high : Option ℕ) → IsStack stack → AreOctets octets
+    → AreDigits octets high → BeginsText Second (before Second stack ++ 120 ∷ (encode_upper octets ++ high_text high))
 digits_begin stack octets None h are m =
     subst (λ l. BeginsText Second (before Second stack ++ 120 ∷ l)) (sym (append-nil (encode_upper octets)))
     (octets_begin stack octets h are m (encode_upper octets) [] (sym (append-nil (encode_upper octets))))
@@ -145,13 +152,16 @@ behind_begins version (Row ts ∷ stack) h has =
     let k = h.0 in
     ends version stack (row (trees_of ts)) (91 ∷ row_text version (trees_of ts)) (93 ∷ []) h.2 (row_is_tree (length stack) ts (omega arith) h.1) refl
 
-name_begins : (version : Version) (stack : List Frame) (l x y : List ℕ) → IsStack stack → length stack < MOST_ROUND → IsLabel l → l ++ 62 ∷ 61 ∷ 46 ∷ [] ≡ x ++ y → BeginsText version (before version stack ++ 60 ∷ x)
+name_begins : (version : Version) (stack : List Frame) (l x y : List ℕ) → IsStack stack → length stack < MOST_ROUND
+    → IsLabel l → l ++ 62 ∷ 61 ∷ 46 ∷ [] ≡ x ++ y → BeginsText version (before version stack ++ 60 ∷ x)
 name_begins version stack l x y h low is text =
     ends version stack (named l empty) (60 ∷ x) y h (record { fits = omega arith; parts = (is, tt) }) (ap (λ k. 60 ∷ k) text)
 
-pub state_begins : (version : Version) (mode : Mode) (stack : List Frame) → (text : List ℕ) → StandsFor version text (state mode stack) → BeginsText version text
+pub state_begins : (version : Version) (mode : Mode) (stack : List Frame) → (text : List ℕ)
+    → StandsFor version text (state mode stack) → BeginsText version text
 state_begins version Start stack text is =
-    as_begun (append-nil (before version stack) ∙ is.bytes) (ends version stack empty [] (46 ∷ []) is.stack (empty_is_tree (length stack) (level_low stack is.stack)) refl)
+    as_begun (append-nil (before version stack) ∙ is.bytes) (ends version stack empty [] (46 ∷ []) is.stack
+    (empty_is_tree (length stack) (level_low stack is.stack)) refl)
 state_begins version Opened stack text is =
     as_begun is.bytes (ends version stack (row none) (91 ∷ []) (93 ∷ []) is.stack (row_is_tree (length stack) [] (level_low stack is.stack) tt) refl)
 state_begins version Behind stack text is = as_begun is.bytes (behind_begins version stack is.stack is.placed)
@@ -170,16 +180,19 @@ state_begins version (Value width number) stack text is =
     (number_text version width number is.mode.0 is.mode.1 is.mode.2 ∙ sym (append-nil (decimal width ++ 39 ∷ decimal number))))
 state_begins version Hash stack text is =
     let low = is.placed in
-    as_begun is.bytes (ends version stack (alt 0 empty) (35 ∷ []) (decimal 0 ++ 58 ∷ 46 ∷ []) is.stack (record { fits = (omega arith, omega arith); parts = tt }) refl)
+    as_begun is.bytes (ends version stack (alt 0 empty) (35 ∷ []) (decimal 0 ++ 58 ∷ 46 ∷ []) is.stack
+    (record { fits = (omega arith, omega arith); parts = tt }) refl)
 state_begins version (Number number) stack text is =
     let low = is.placed in
     let few = is.mode in
-    as_begun is.bytes (ends version stack (alt number empty) (35 ∷ decimal number) (58 ∷ 46 ∷ []) is.stack (record { fits = (omega arith, omega arith); parts = tt }) refl)
+    as_begun is.bytes (ends version stack (alt number empty) (35 ∷ decimal number) (58 ∷ 46 ∷ []) is.stack
+    (record { fits = (omega arith, omega arith); parts = tt }) refl)
 state_begins version (Name name at) stack text is =
     as_begun is.bytes (name_begins version stack (name ++ 48 ∷ []) name (48 ∷ 62 ∷ 61 ∷ 46 ∷ []) is.stack is.placed (closed_label name at is.mode)
     (append_assoc name (48 ∷ []) (62 ∷ 61 ∷ 46 ∷ [])))
 state_begins version (NameEnd name) stack text is =
-    as_begun is.bytes (name_begins version stack name (name ++ 62 ∷ []) (61 ∷ 46 ∷ []) is.stack is.placed is.mode (sym (append_assoc name (62 ∷ []) (61 ∷ 46 ∷ []))))
+    as_begun is.bytes (name_begins version stack name (name ++ 62 ∷ []) (61 ∷ 46 ∷ []) is.stack is.placed is.mode
+    (sym (append_assoc name (62 ∷ []) (61 ∷ 46 ∷ []))))
 state_begins version (Octets octets high) stack text is =
     let P : Version → Type 0 = λ v. BeginsText v (before v stack ++ 120 ∷ (encode_upper octets ++ high_text high)) in
     as_begun is.bytes (subst P (sym is.placed) (digits_begin stack octets high is.stack is.mode.0 is.mode.1))

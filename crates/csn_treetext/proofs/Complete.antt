@@ -1,6 +1,7 @@
 -- The reader goes through the text of a tree, and has the tree at its end.
 use Rattle.std.specs.Prelude.{nat_lt}
-use Rattle.std.proofs.Common.{◌≡◌, ℕ, suc, ◌+◌, ◌%◌, ◌^◌, ◌<◌, ◌==◌, true, false, List, [], ◌∷◌, ◌++◌, length, Some, refl, sym, ap, ◌∙◌, arith, inl, inr, append_assoc, append-nil}
+use Rattle.std.proofs.Common.{◌≡◌, ℕ, suc, ◌+◌, ◌%◌, ◌^◌, ◌<◌, ◌==◌, true, false, List, [], ◌∷◌, ◌++◌, length, Some}
+use Rattle.std.proofs.Common.{refl, sym, ap, ◌∙◌, arith, inl, inr, append_assoc, append-nil}
 use Rattle.std.specs.Fmt.{decimal}
 use Rattle.std.proofs.lemmas.Fmt.{decimal_by_steps}
 use Rattle.std.proofs.lemmas.Bool.{cases_Bool, lt-ltb}
@@ -59,7 +60,9 @@ first_byte version (alt j t) h = record { byte = 35; behind = decimal j ++ 58 �
 first_byte version (named l t) h = record { byte = 60; behind = l ++ 62 ∷ 61 ∷ text_of version t; is = refl; other = refl }
 
 -- a tree after `[` begins a row
-opened_run : (version : Version) (stack : List Frame) (l : List ℕ) → FirstByte l → length stack < MOST_ROUND → (rest : List ℕ) → run version (At Opened stack) (l ++ rest) ≡ run version (At Start (Row [] ∷ stack)) (l ++ rest)
+opened_run : (version : Version) (stack : List Frame) (l : List ℕ) → FirstByte l → length stack < MOST_ROUND
+    → (rest : List ℕ) → run version (At Opened stack) (l ++ rest) ≡ run version (At Start (Row [] ∷ stack))
+    (l ++ rest)
 opened_run version stack l f low rest =
     let room : nat_lt (length stack) MOST_ROUND ≡ true = lt-ltb (length stack) MOST_ROUND low in
     let is_not = f.other in
@@ -79,7 +82,9 @@ list_back none = refl
 list_back (more t ts) = ap (λ us. more t us) (list_back ts)
 
 mutual
-  pub tree_run : (version : Version) (t : TreeV) (stack : List Frame) → FitsInside (length stack) t → HasTreeParts t → (rest : List ℕ) → Stops rest → run version (At Start stack) (text_of version t ++ rest) ≡ run version (Some (with_tree stack t)) rest
+  pub tree_run : (version : Version) (t : TreeV) (stack : List Frame) → FitsInside (length stack) t → HasTreeParts t
+      → (rest : List ℕ) → Stops rest → run version (At Start stack) (text_of version t ++ rest) ≡ run version
+      (Some (with_tree stack t)) rest
   tree_run version empty stack fits parts rest stops = refl
   tree_run version (bits b) stack fits parts rest stops = leaf_run version stack b parts.0 parts.1 rest stops
   tree_run version (row none) stack fits parts rest stops = refl
@@ -107,7 +112,10 @@ mutual
       ∙ label_run version stack l low parts.0 (text_of version t ++ rest)
       ∙ tree_run version t (Named l ∷ stack) fits parts.1 rest stops
 
-  rows_run : (version : Version) (ts : Trees) (stack : List Frame) (before : List TreeV) → AllFitInside (suc (length stack)) ts → AllHaveTreeParts ts → (rest : List ℕ) → run version (At Behind (Row before ∷ stack)) (rest_text version ts ++ 93 ∷ rest) ≡ run version (Some (with_tree stack (row (trees_of (before ++ list_of ts))))) rest
+  rows_run : (version : Version) (ts : Trees) (stack : List Frame) (before : List TreeV)
+      → AllFitInside (suc (length stack)) ts → AllHaveTreeParts ts → (rest : List ℕ)
+      → run version (At Behind (Row before ∷ stack)) (rest_text version ts ++ 93 ∷ rest) ≡ run version
+      (Some (with_tree stack (row (trees_of (before ++ list_of ts))))) rest
   rows_run version none stack before fit have rest =
       ap (λ us. run version (Some (with_tree stack (row (trees_of us)))) rest) (sym (append-nil before))
   rows_run version (more t ts) stack before fit have rest =

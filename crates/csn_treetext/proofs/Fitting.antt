@@ -15,7 +15,8 @@ room_for round (alt j t) h = omega (arith, room_for (suc round) t h.1)
 room_for round (named l t) h = omega (arith, room_for (suc round) t h)
 
 -- each tree of a row that fits fits
-pub member_fits : (round : ℕ) (trees : List TreeV) (at : ℕ) (t : TreeV) → slice_get trees at ≡ Some t → AllFitInside round (trees_of trees) → FitsInside round t
+pub member_fits : (round : ℕ) (trees : List TreeV) (at : ℕ) (t : TreeV)
+    → slice_get trees at ≡ Some t → AllFitInside round (trees_of trees) → FitsInside round t
 member_fits round [] at t h all = absurd (cc)
 member_fits round (u ∷ trees) zero t h all = let same : u ≡ t = cc in subst (FitsInside round) same all.0
 member_fits round (u ∷ trees) (suc at) t h all = member_fits round trees at t h all.1
@@ -24,7 +25,8 @@ member_fits round (u ∷ trees) (suc at) t h all = member_fits round trees at t 
 abbrev pub FirstFit : ℕ → List TreeV → ℕ → Type 0
 FirstFit round trees at = (k : ℕ) (t : TreeV) → k < at → slice_get trees k ≡ Some t → FitsInside round t
 
-pub first_more : (round : ℕ) (trees : List TreeV) (at : ℕ) (t : TreeV) → FirstFit round trees at → slice_get trees at ≡ Some t → FitsInside round t → FirstFit round trees (at + 1)
+pub first_more : (round : ℕ) (trees : List TreeV) (at : ℕ) (t : TreeV)
+    → FirstFit round trees at → slice_get trees at ≡ Some t → FitsInside round t → FirstFit round trees (at + 1)
 first_more round trees at t before is this k u low at_k = elim (cases_lt k at) [
   | inl lower ↦ before k u lower at_k
   | inr higher ↦ (

@@ -1,6 +1,8 @@
 -- A step in a leaf, a number or a label adds its byte to the bytes that the state stands for.
 use Rattle.std.specs.Prelude.{nat_lt, nat_le, slice_index, option_map}
-use Rattle.std.proofs.Common.{◌≡◌, ℕ, zero, suc, ◌+◌, ◌-◌, ◌*◌, ◌/◌, ◌%◌, ◌^◌, ◌<◌, ◌≤◌, ◌==◌, ◌&&◌, List, [], ◌∷◌, ◌++◌, length, Option, Some, None, refl, sym, ap, ◌∙◌, subst, arith, append_assoc, append-nil, eqb-true}
+use Rattle.std.proofs.Common.{◌≡◌, ℕ, zero, suc, ◌+◌, ◌-◌, ◌*◌, ◌/◌, ◌%◌, ◌^◌, ◌<◌, ◌≤◌, ◌==◌, ◌&&◌, List, [], ◌∷◌}
+use Rattle.std.proofs.Common.{◌++◌, length, Option, Some, None, refl, sym, ap, ◌∙◌, subst, arith, append_assoc}
+use Rattle.std.proofs.Common.{append-nil, eqb-true}
 use Rattle.std.specs.Fmt.{decimal}
 use Rattle.std.proofs.lemmas.Bool.{ltb-true, leb-true, and_parts}
 use Rattle.std.proofs.lemmas.Nat.{pow_pos}
@@ -24,7 +26,10 @@ use Rattle.csn_treetext.specs.reader.Mode.{Width, Quote, Value, Hash, Number, Na
 use Rattle.csn_treetext.specs.Text.{text_of, bit_digits, is_short}
 use Rattle.csn_bits.specs.Numbers.{low_bits}
 use Rattle.csn_treetext.specs.reader.Numeral.{grown, greatest_of}
-use Rattle.csn_treetext.specs.reader.Machine.{State, state, with_stack, IsMode, AreOctets, name_after, name_from, may_end, after_name, after_width, after_quote, after_hash, after_number, after_octets, after_high, after_slash, after_bits, is_bit_digit, are_many, last_octet, upper_value, cut_octets}
+use Rattle.csn_treetext.specs.reader.Machine.{State, state, with_stack, IsMode, AreOctets, name_after, name_from}
+use Rattle.csn_treetext.specs.reader.Machine.{may_end, after_name, after_width, after_quote, after_hash, after_number}
+use Rattle.csn_treetext.specs.reader.Machine.{after_octets, after_high, after_slash, after_bits, is_bit_digit}
+use Rattle.csn_treetext.specs.reader.Machine.{are_many, last_octet, upper_value, cut_octets}
 use Rattle.csn_treetext.proofs.Numerals.{grew_first, grew_next}
 use Rattle.csn_treetext.proofs.Names.{label_of_run, run-append}
 use Rattle.csn_treetext.proofs.OctetLeaves.{encode_upper-push, digit-upper_value, cut_text}
@@ -34,7 +39,9 @@ use Rattle.csn_treetext.proofs.WholeTrees.{if_gave, given, nothing_given, spelle
 -- ---- one byte more in a leaf, a number or a label
 
 -- a mode more, where the bytes before it grew
-pub with_stands : (version : Version) (stack : List Frame) (text : List ℕ) (o : Option Mode) (s : State) → ((mode : Mode) → o ≡ Some mode → StandsFor version text (state mode stack)) → with_stack stack o ≡ Some s → StandsFor version text s
+pub with_stands : (version : Version) (stack : List Frame) (text : List ℕ) (o : Option Mode) (s : State)
+    → ((mode : Mode) → o ≡ Some mode → StandsFor version text (state mode stack))
+    → with_stack stack o ≡ Some s → StandsFor version text s
 with_stands version stack text None s is e = nothing_given s e
 with_stands version stack text (Some mode) s is e = given _ s e (is mode refl)
 
@@ -42,14 +49,17 @@ pub mapped : {A P : Type 0} (f : A → Mode) (o : Option A) (mode : Mode) → op
 mapped f None mode e is = absurd (let z : None ≡ Some mode = e in cc)
 mapped f (Some x) mode e is = is x refl (cc)
 
-pub as_mode : {version : Version} {text : List ℕ} {stack : List Frame} (a b : Mode) → a ≡ b → StandsFor version text (state a stack) → StandsFor version text (state b stack)
+pub as_mode : {version : Version} {text : List ℕ} {stack : List Frame} (a b : Mode)
+    → a ≡ b → StandsFor version text (state a stack) → StandsFor version text (state b stack)
 as_mode {version} {text} {stack} a b same is = subst (λ m. StandsFor version text (state m stack)) same is
 
 -- the byte behind a front and what grew behind it
 pub behind_front : (front a b : List ℕ) (byte : ℕ) → b ≡ a ++ byte ∷ [] → front ++ b ≡ (front ++ a) ++ byte ∷ []
 behind_front front a b byte same = ap (λ l. front ++ l) same ∙ sym (append_assoc front a (byte ∷ []))
 
-pub width_stands : (version : Version) (width : ℕ) (stack : List Frame) (byte : ℕ) (mode : Mode) → IsStack stack → IsMode (Width width) → after_width width byte ≡ Some mode → StandsFor version (spelled version (Width width) stack ++ byte ∷ []) (state mode stack)
+pub width_stands : (version : Version) (width : ℕ) (stack : List Frame) (byte : ℕ) (mode : Mode)
+    → IsStack stack → IsMode (Width width) → after_width width byte ≡ Some mode
+    → StandsFor version (spelled version (Width width) stack ++ byte ∷ []) (state mode stack)
 width_stands version width stack byte mode h m e =
     if_gave (byte == 39) _ _ _ e
     (λ is e1. as_mode (Quote width) mode (cc) (with_byte (before version stack ++ decimal width) byte 39 is (record {
@@ -60,7 +70,13 @@ width_stands version width stack byte mode h m e =
     })))
     (λ _ e1. mapped Width (grown MOST_SHORT (Some width) byte) mode e1 (λ n grew same. as_mode (Width n) mode same (
     let g = grew_next MOST_SHORT width n byte (omega arith) grew in
-    record { stack = h; mode = (omega (arith, g.0), g.1.few); placed = tt; bytes = behind_front (before version stack) (decimal width) (decimal n) byte g.1.digits })))
+    record {
+      stack = h;
+      mode = (omega (arith, g.0), g.1.few);
+      placed = tt;
+      bytes = behind_front (before version stack)
+          (decimal width) (decimal n) byte g.1.digits;
+    })))
 
 -- the greatest number of bits that a leaf has as one
 pub greatest_small : (width : ℕ) → width ≤ MOST_SHORT → greatest_of width < 2 ^ 64
@@ -69,7 +85,9 @@ greatest_small width few =
     let power : 2 ^ width ≤ 2 ^ 64 = pow_mono {i = width} {j = 64} few in
     omega arith
 
-pub quote_stands : (version : Version) (width : ℕ) (stack : List Frame) (byte : ℕ) (mode : Mode) → IsStack stack → IsMode (Quote width) → after_quote width byte ≡ Some mode → StandsFor version (spelled version (Quote width) stack ++ byte ∷ []) (state mode stack)
+pub quote_stands : (version : Version) (width : ℕ) (stack : List Frame) (byte : ℕ) (mode : Mode)
+    → IsStack stack → IsMode (Quote width) → after_quote width byte ≡ Some mode
+    → StandsFor version (spelled version (Quote width) stack ++ byte ∷ []) (state mode stack)
 quote_stands version width stack byte mode h m e =
     mapped (Value width) (grown (greatest_of width) None byte) mode e (λ n grew same. as_mode (Value width n) mode same (
     let g = grew_first (greatest_of width) n byte grew in
@@ -83,13 +101,17 @@ quote_stands version width stack byte mode h m e =
           ∙ sym (append_assoc (before version stack) (decimal width ++ 39 ∷ []) (byte ∷ []));
     }))
 
-pub value_stands : (version : Version) (width number : ℕ) (stack : List Frame) (byte : ℕ) (s : State) → IsStack stack → IsMode (Value width number) → after_number (grown (greatest_of width) (Some number) byte) width number stack byte ≡ Some s → StandsFor version (spelled version (Value width number) stack ++ byte ∷ []) s
+pub value_stands : (version : Version) (width number : ℕ) (stack : List Frame) (byte : ℕ) (s : State)
+    → IsStack stack → IsMode (Value width number) → after_number (grown (greatest_of width) (Some number) byte)
+    width number stack byte ≡ Some s → StandsFor version (spelled version (Value width number) stack ++ byte ∷ []) s
 value_stands version width number stack byte s h m e = by_number (grown (greatest_of width) (Some number) byte) refl
   where
-    by_number : (o : Option ℕ) → grown (greatest_of width) (Some number) byte ≡ o → StandsFor version (spelled version (Value width number) stack ++ byte ∷ []) s
+    by_number : (o : Option ℕ) → grown (greatest_of width) (Some number) byte ≡ o
+        → StandsFor version (spelled version (Value width number) stack ++ byte ∷ []) s
     by_number None grew =
         spelled_as s (ap (λ l. (before version stack ++ l) ++ byte ∷ []) (number_text version width number m.0 m.1 m.2))
-        (closed_stands version stack (bits (low_bits width number)) byte s h (number_is_tree (length stack) width number (level_low stack h) m.1) (rw grew at e))
+        (closed_stands version stack (bits (low_bits width number)) byte s h
+        (number_is_tree (length stack) width number (level_low stack h) m.1) (rw grew at e))
     by_number (Some n) grew =
         let g = (grew_next (greatest_of width) number n byte (greatest_small width m.1) grew).1 in
         given _ s (rw grew at e) (record {
@@ -102,7 +124,9 @@ value_stands version width number stack byte s h m e = by_number (grown (greates
               ∙ sym (append_assoc (before version stack) (decimal width ++ 39 ∷ decimal number) (byte ∷ []));
         })
 
-pub hash_stands : (version : Version) (stack : List Frame) (byte : ℕ) (mode : Mode) → IsStack stack → length stack < MOST_ROUND → after_hash None byte ≡ Some mode → StandsFor version (spelled version Hash stack ++ byte ∷ []) (state mode stack)
+pub hash_stands : (version : Version) (stack : List Frame) (byte : ℕ) (mode : Mode)
+    → IsStack stack → length stack < MOST_ROUND → after_hash None byte ≡ Some mode
+    → StandsFor version (spelled version Hash stack ++ byte ∷ []) (state mode stack)
 hash_stands version stack byte mode h low e =
     mapped Number (grown GREATEST_ALTERNATIVE None byte) mode e (λ n grew same. as_mode (Number n) mode same (
     let g = grew_first GREATEST_ALTERNATIVE n byte grew in
@@ -113,7 +137,9 @@ hash_stands version stack byte mode h low e =
       bytes = ap (λ l. before version stack ++ 35 ∷ l) g.digits ∙ sym (append_assoc (before version stack) (35 ∷ []) (byte ∷ []));
     }))
 
-pub number_stands : (version : Version) (number : ℕ) (stack : List Frame) (byte : ℕ) (mode : Mode) → IsStack stack → length stack < MOST_ROUND → after_hash (Some number) byte ≡ Some mode → StandsFor version (spelled version (Number number) stack ++ byte ∷ []) (state mode stack)
+pub number_stands : (version : Version) (number : ℕ) (stack : List Frame) (byte : ℕ) (mode : Mode)
+    → IsStack stack → length stack < MOST_ROUND → after_hash (Some number) byte ≡ Some mode
+    → StandsFor version (spelled version (Number number) stack ++ byte ∷ []) (state mode stack)
 number_stands version number stack byte mode h low e =
     mapped Number (grown GREATEST_ALTERNATIVE (Some number) byte) mode e (λ n grew same. as_mode (Number n) mode same (
     let g = (grew_next GREATEST_ALTERNATIVE number n byte (omega arith) grew).1 in
@@ -124,7 +150,9 @@ number_stands version number stack byte mode h low e =
       bytes = behind_front (before version stack) (35 ∷ decimal number) (35 ∷ decimal n) byte (ap (λ l. 35 ∷ l) g.digits);
     }))
 
-pub name_stands : (version : Version) (name : List ℕ) (at : NameAt) (stack : List Frame) (byte : ℕ) (mode : Mode) → IsStack stack → IsMode (Name name at) → length stack < MOST_ROUND → after_name name at byte ≡ Some mode → StandsFor version (spelled version (Name name at) stack ++ byte ∷ []) (state mode stack)
+pub name_stands : (version : Version) (name : List ℕ) (at : NameAt) (stack : List Frame) (byte : ℕ) (mode : Mode)
+    → IsStack stack → IsMode (Name name at) → length stack < MOST_ROUND → after_name name at byte ≡ Some mode
+    → StandsFor version (spelled version (Name name at) stack ++ byte ∷ []) (state mode stack)
 name_stands version name at stack byte mode h m low e =
     if_gave (byte == 62 && may_end at) _ _ _ e
     (λ both e1.
@@ -150,7 +178,10 @@ AreOctets-push [] octet are small (suc k) = omega arith
 AreOctets-push (o ∷ octets) octet are small zero = are 0
 AreOctets-push (o ∷ octets) octet are small (suc k) = AreOctets-push octets octet (λ i. are (suc i)) small k
 
-pub high_stands : (version : Version) (octets : List ℕ) (high : ℕ) (stack : List Frame) (byte : ℕ) (mode : Mode) → IsStack stack → IsMode (Octets octets (Some high)) → version ≡ Second → after_high octets high (upper_value byte) ≡ Some mode → StandsFor version (spelled version (Octets octets (Some high)) stack ++ byte ∷ []) (state mode stack)
+pub high_stands : (version : Version) (octets : List ℕ) (high : ℕ) (stack : List Frame) (byte : ℕ) (mode : Mode)
+    → IsStack stack → IsMode (Octets octets (Some high))
+    → version ≡ Second → after_high octets high (upper_value byte) ≡ Some mode
+    → StandsFor version (spelled version (Octets octets (Some high)) stack ++ byte ∷ []) (state mode stack)
 high_stands version octets high stack byte mode h m second e = by_value (upper_value byte) refl
   where
     by_value : (o : Option ℕ) → upper_value byte ≡ o → StandsFor version (spelled version (Octets octets (Some high)) stack ++ byte ∷ []) (state mode stack)
@@ -173,10 +204,13 @@ high_stands version octets high stack byte mode h m second e = by_value (upper_v
         })
 
 -- a leaf of whole octets
-pub many_text : (octets : List ℕ) → AreOctets octets → 9 ≤ length octets → length octets ≤ MOST_OCTETS → text_of Second (cut_octets octets 8) ≡ 120 ∷ (encode_upper octets ++ [])
+pub many_text : (octets : List ℕ) → AreOctets octets → 9 ≤ length octets → length octets ≤ MOST_OCTETS
+    → text_of Second (cut_octets octets 8) ≡ 120 ∷ (encode_upper octets ++ [])
 many_text octets are many few = cut_text octets 8 are many few (omega arith) (omega arith) (omega arith)
 
-pub octets_stand : (octets : List ℕ) (stack : List Frame) (byte : ℕ) (s : State) → IsStack stack → IsMode (Octets octets None) → after_octets octets (upper_value byte) stack byte ≡ Some s → StandsFor Second (spelled Second (Octets octets None) stack ++ byte ∷ []) s
+pub octets_stand : (octets : List ℕ) (stack : List Frame) (byte : ℕ) (s : State)
+    → IsStack stack → IsMode (Octets octets None) → after_octets octets (upper_value byte) stack byte ≡ Some s
+    → StandsFor Second (spelled Second (Octets octets None) stack ++ byte ∷ []) s
 octets_stand octets stack byte s h m e = by_value (upper_value byte) refl
   where
     by_value : (o : Option ℕ) → upper_value byte ≡ o → StandsFor Second (spelled Second (Octets octets None) stack ++ byte ∷ []) s
@@ -209,10 +243,13 @@ octets_stand octets stack byte s h m e = by_value (upper_value byte) refl
         })))
         (λ _ e3. nothing_given s e3))
         (λ _ e2. spelled_as s (ap (λ l. (before Second stack ++ l) ++ byte ∷ []) (many_text octets m.0 count m.1))
-        (closed_stands Second stack (cut_octets octets 8) byte s h (cut_is_tree (length stack) octets 8 (level_low stack h) m.0 (omega arith) m.1 (omega arith)) e2)))
+        (closed_stands Second stack (cut_octets octets 8) byte s h
+        (cut_is_tree (length stack) octets 8 (level_low stack h) m.0 (omega arith) m.1 (omega arith)) e2)))
         (λ _ e1. nothing_given s e1)
 
-pub slash_stands : (octets : List ℕ) (stack : List Frame) (byte : ℕ) (s : State) → IsStack stack → IsMode (Slash octets) → after_slash octets stack byte ≡ Some s → StandsFor Second (spelled Second (Slash octets) stack ++ byte ∷ []) s
+pub slash_stands : (octets : List ℕ) (stack : List Frame) (byte : ℕ) (s : State)
+    → IsStack stack → IsMode (Slash octets) → after_slash octets stack byte ≡ Some s
+    → StandsFor Second (spelled Second (Slash octets) stack ++ byte ∷ []) s
 slash_stands octets stack byte s h m e =
     if_gave ((nat_le 49 byte && nat_le byte 55) && last_octet octets % 2 ^ (56 - byte) == 0) _ _ _ e
     (λ all e1.
@@ -229,7 +266,8 @@ slash_stands octets stack byte s h m e =
     (ap (λ l. before Second stack ++ l) (text ∙ ap (λ l. 120 ∷ (encode_upper octets ++ l)) (tail_is byte least most)
     ∙ ap (λ l. 120 ∷ l) (sym (append_assoc (encode_upper octets) (47 ∷ []) (byte ∷ []))))
     ∙ sym (append_assoc (before Second stack) (120 ∷ (encode_upper octets ++ 47 ∷ [])) (byte ∷ [])))
-    (tree_stands Second stack (cut_octets octets (byte - 48)) h (cut_is_tree (length stack) octets (byte - 48) (level_low stack h) m.0 (omega arith) m.2 (omega arith)))))
+    (tree_stands Second stack (cut_octets octets (byte - 48)) h (cut_is_tree (length stack) octets (byte - 48)
+    (level_low stack h) m.0 (omega arith) m.2 (omega arith)))))
     (λ _ e1. nothing_given s e1)
   where
     tail_is : (byte : ℕ) → 49 ≤ byte → byte ≤ 55 → tail_written ((byte - 48) % 8) ≡ 47 ∷ byte ∷ []
@@ -238,7 +276,8 @@ slash_stands octets stack byte s h m e =
         let is : 48 + (byte - 48) ≡ byte = omega arith in
         ap tail_written small ∙ tail_written-some (byte - 48) (omega arith) ∙ ap (λ c. 47 ∷ c ∷ []) is
 
-pub bits_stand : (b : List ℕ) (stack : List Frame) (byte : ℕ) (s : State) → IsStack stack → IsMode (Bare b) → after_bits b stack byte ≡ Some s → StandsFor First (spelled First (Bare b) stack ++ byte ∷ []) s
+pub bits_stand : (b : List ℕ) (stack : List Frame) (byte : ℕ) (s : State) → IsStack stack → IsMode (Bare b)
+    → after_bits b stack byte ≡ Some s → StandsFor First (spelled First (Bare b) stack ++ byte ∷ []) s
 bits_stand b stack byte s h m e =
     if_gave (is_bit_digit byte) _ _ _ e
     (λ digit e1. if_gave (nat_lt (length b) MOST_BITS) _ _ _ e1

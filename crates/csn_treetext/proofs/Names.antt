@@ -1,6 +1,7 @@
 -- Labels, byte by byte.
 use Rattle.std.specs.Prelude.{if◌then◌else◌}
-use Rattle.std.proofs.Common.{◌≡◌, ℕ, ◌==◌, Bool, true, false, ◌&&◌, ◌||◌, List, [], ◌∷◌, ◌++◌, Option, Some, None, refl, sym, ap, ◌∙◌, subst, inl, inr, eqb-true}
+use Rattle.std.proofs.Common.{◌≡◌, ℕ, ◌==◌, Bool, true, false, ◌&&◌, ◌||◌, List, [], ◌∷◌, ◌++◌, Option, Some, None}
+use Rattle.std.proofs.Common.{refl, sym, ap, ◌∙◌, subst, inl, inr, eqb-true}
 use Rattle.std.specs.List.{list_all, slice_split}
 use Rattle.std.specs.Char.{is_ascii_alphanumeric}
 use Rattle.std.proofs.lemmas.Bool.{cases_Bool}
@@ -30,7 +31,8 @@ pub record Shape (l : List ℕ) : Type 0 where
   pub others : List (List ℕ)
   pub is : slice_split (λ c. c == 32) l ≡ first ∷ others
 
-other_pieces : (c : ℕ) (r p : List ℕ) (ps : List (List ℕ)) → (c == 32) ≡ false → slice_split (λ c. c == 32) r ≡ p ∷ ps → slice_split (λ c. c == 32) (c ∷ r) ≡ (c ∷ p) ∷ ps
+other_pieces : (c : ℕ) (r p : List ℕ) (ps : List (List ℕ)) → (c == 32) ≡ false → slice_split (λ c. c == 32) r ≡ p ∷ ps
+    → slice_split (λ c. c == 32) (c ∷ r) ≡ (c ∷ p) ∷ ps
 other_pieces c r p ps fails e = rw fails (rw e refl)
 
 shape_of : (l : List ℕ) → Shape l
@@ -97,7 +99,8 @@ module _ (c : ℕ) (r p : List ℕ) (ps : List (List ℕ)) (other : (c == 32) �
 
   within_other : is_word_tail p && list_all is_word ps ≡ accepts (name_run (Some Within) r)
       → (starts_alphanumeric p && is_word_tail p) && list_all is_word ps ≡ accepts (name_run (Some Joint) r)
-      → ((goes_on_in_word c || (joins_pieces c && starts_alphanumeric p)) && is_word_tail p) && list_all is_word ps ≡ accepts (name_run (name_after Within c) r)
+      → ((goes_on_in_word c || (joins_pieces c && starts_alphanumeric p)) && is_word_tail p)
+      && list_all is_word ps ≡ accepts (name_run (name_after Within c) r)
   within_other h joint = elim (cases_Bool (joins_pieces c)) [
     | inl holds ↦ (
         let on = joins_not_on c holds in
@@ -124,7 +127,8 @@ module _ (c : ℕ) (r p : List ℕ) (ps : List (List ℕ)) (other : (c == 32) �
   ]
 
   joint_other : is_word_tail p && list_all is_word ps ≡ accepts (name_run (Some Within) r)
-      → (is_ascii_alphanumeric c && ((goes_on_in_word c || (joins_pieces c && starts_alphanumeric p)) && is_word_tail p)) && list_all is_word ps ≡ accepts (name_run (name_after Joint c) r)
+      → (is_ascii_alphanumeric c && ((goes_on_in_word c || (joins_pieces c && starts_alphanumeric p))
+      && is_word_tail p)) && list_all is_word ps ≡ accepts (name_run (name_after Joint c) r)
   joint_other h = elim (cases_Bool (is_ascii_alphanumeric c)) [
     | inl holds ↦ (
         ap (λ b. (b && ((goes_on_in_word c || (joins_pieces c && starts_alphanumeric p)) && is_word_tail p)) && list_all is_word ps) holds
@@ -142,7 +146,8 @@ unfolding head_ok pieces joint_tail
 reads_other c r p ps other e h =
     let here = other_pieces c r p ps other e in
     let within : is_word_tail p && list_all is_word ps ≡ accepts (name_run (Some Within) r) = ap (head_ok is_word_tail) (sym e) ∙ h.within in
-    let joint : (starts_alphanumeric p && is_word_tail p) && list_all is_word ps ≡ accepts (name_run (Some Joint) r) = ap (head_ok joint_tail) (sym e) ∙ h.joint in
+    let joint : (starts_alphanumeric p && is_word_tail p) && list_all is_word ps ≡ accepts (name_run (Some Joint) r) =
+    ap (head_ok joint_tail) (sym e) ∙ h.joint in
     record {
       front = ap (head_ok is_word) here ∙ front_other c r p ps other within;
       within = ap (head_ok is_word_tail) here ∙ within_other c r p ps other within joint;

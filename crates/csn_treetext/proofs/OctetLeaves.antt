@@ -1,5 +1,7 @@
 -- Leaves that are written as block lines.
-use Rattle.std.proofs.Common.{◌≡◌, ℕ, zero, suc, ◌+◌, ◌-◌, ◌*◌, ◌/◌, ◌%◌, ◌^◌, ◌<◌, ◌≤◌, ◌==◌, nat_le, nat_lt, Bool, true, false, ◌&&◌, List, [], ◌∷◌, ◌++◌, length, take, slice_index, Option, Some, None, unwrap_or, refl, sym, ap, ◌∙◌, arith, inl, inr, eqb-true}
+use Rattle.std.proofs.Common.{◌≡◌, ℕ, zero, suc, ◌+◌, ◌-◌, ◌*◌, ◌/◌, ◌%◌, ◌^◌, ◌<◌, ◌≤◌, ◌==◌, nat_le, nat_lt, Bool}
+use Rattle.std.proofs.Common.{true, false, ◌&&◌, List, [], ◌∷◌, ◌++◌, length, take, slice_index, Option, Some, None}
+use Rattle.std.proofs.Common.{unwrap_or, refl, sym, ap, ◌∙◌, arith, inl, inr, eqb-true}
 use Rattle.std.proofs.Common.{slice_get}
 use Rattle.std.proofs.lemmas.Bool.{agree_below, agree_below_at, cases_lt, and_parts, ltb-true, lt-leb}
 use Rattle.std.specs.Prelude.{if◌then◌else◌}
@@ -8,7 +10,8 @@ use Rattle.csn_treetext.specs.declared.bounds.TheConstants.{MOST_SHORT, MOST_OCT
 use Rattle.hex.specs.Hex.{encode_upper, encode_with, upper_digits}
 use Rattle.csn_bits.specs.Octets.{IsBits, IsPacked, bits_of_octet, bits_of_octets, octets_of, octet_of}
 use Rattle.csn_bits.specs.Line.{last_of, tail_written, written}
-use Rattle.csn_bits.proofs.Packing.{IsBits-bits_of_octets, IsBits-take, length-bits_of_octets, octet_of-bits_of_octet, take-bits_of_octets-octets_of, length-octets_of, octets_of-small}
+use Rattle.csn_bits.proofs.Packing.{IsBits-bits_of_octets, IsBits-take, length-bits_of_octets, octet_of-bits_of_octet}
+use Rattle.csn_bits.proofs.Packing.{take-bits_of_octets-octets_of, length-octets_of, octets_of-small}
 use Rattle.csn_bits.proofs.Written.{written-packed}
 use Rattle.csn_treetext.specs.declared.version.Version.TheVariants.{Second}
 use Rattle.csn_treetext.specs.Text.{leaf_text, is_short, other_text}
@@ -85,12 +88,16 @@ digit-upper_value byte v h = elim (cases_lt byte 71) [
   | inr high ↦ (let e = upper_value-past byte (omega arith) in absurd (let z : None ≡ Some v = sym e ∙ h in cc))
 ]
 
-pub encode_upper-push : (octets : List ℕ) (octet : ℕ) → encode_upper (octets ++ octet ∷ []) ≡ encode_upper octets ++ slice_index upper_digits (octet / 16) ∷ slice_index upper_digits (octet % 16) ∷ []
+pub encode_upper-push : (octets : List ℕ) (octet : ℕ)
+    → encode_upper (octets ++ octet ∷ []) ≡ encode_upper octets ++ slice_index upper_digits (octet / 16)
+    ∷ slice_index upper_digits (octet % 16) ∷ []
 unfolding encode_with
 encode_upper-push [] octet = refl
 encode_upper-push (o ∷ octets) octet = ap (λ l. slice_index upper_digits (o / 16) ∷ slice_index upper_digits (o % 16) ∷ l) (encode_upper-push octets octet)
 
-pub encode_upper-cons : (octet : ℕ) (octets : List ℕ) → encode_upper (octet ∷ octets) ≡ slice_index upper_digits (octet / 16) ∷ slice_index upper_digits (octet % 16) ∷ encode_upper octets
+pub encode_upper-cons : (octet : ℕ) (octets : List ℕ)
+    → encode_upper (octet ∷ octets) ≡ slice_index upper_digits (octet / 16) ∷ slice_index upper_digits (octet % 16)
+    ∷ encode_upper octets
 unfolding encode_with
 encode_upper-cons octet octets = refl
 
@@ -101,7 +108,8 @@ octets_of-one octet zero some few h = absurd (omega arith)
 octets_of-one octet (suc (suc (suc (suc (suc (suc (suc (suc (suc n))))))))) some few h = absurd (omega arith)
 octets_of-one octet used some few h = ap (λ (m : ℕ). m ∷ []) (omega arith)
 
-octets_of-cut : (octets : List ℕ) (used n : ℕ) → 1 ≤ used → used ≤ 8 → 1 ≤ length octets → last_octet octets % 2 ^ (8 - used) ≡ 0 → n + 8 ≡ 8 * length octets + used
+octets_of-cut : (octets : List ℕ) (used n : ℕ) → 1 ≤ used → used ≤ 8 → 1 ≤ length octets
+    → last_octet octets % 2 ^ (8 - used) ≡ 0 → n + 8 ≡ 8 * length octets + used
     → octets_of (take n (bits_of_octets octets)) ≡ octets
 octets_of-cut [] used n some few more zeros count = absurd (omega arith)
 octets_of-cut (o ∷ []) used n some few more zeros count =

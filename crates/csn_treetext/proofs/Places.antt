@@ -1,5 +1,7 @@
 -- Where a text stops being read, and what was read of it.
-use Rattle.std.proofs.Common.{◌≡◌, ℕ, zero, suc, ◌+◌, ◌-◌, ◌*◌, ◌<◌, ◌≤◌, List, [], ◌∷◌, ◌++◌, length, take, drop, get_or, Option, Some, None, refl, sym, ap, ◌∙◌, subst, arith, inl, inr, append_assoc, append-nil, length-append}
+use Rattle.std.proofs.Common.{◌≡◌, ℕ, zero, suc, ◌+◌, ◌-◌, ◌*◌, ◌<◌, ◌≤◌, List, [], ◌∷◌, ◌++◌, length, take, drop}
+use Rattle.std.proofs.Common.{get_or, Option, Some, None, refl, sym, ap, ◌∙◌, subst, arith, inl, inr, append_assoc}
+use Rattle.std.proofs.Common.{append-nil, length-append}
 use Rattle.std.proofs.Math.Seq.{take-suc}
 use Rattle.std.proofs.lemmas.Bool.{cases_lt, cases_Bool}
 use Rattle.std.proofs.lemmas.List.{take_all, length-take-le}
@@ -74,7 +76,8 @@ room_behind version (Row (t ∷ ts) ∷ stack) text has is few =
     let space = ap length (spaced-row version t ts) ∙ length-append (row_text version (trees_of (t ∷ ts))) (32 ∷ []) in
     (omega arith, room_before version stack (omega arith))
 
-room_in : (version : Version) (mode : Mode) (stack : List Frame) (text : List ℕ) → StandsFor version text (state mode stack) → length text ≤ MOST_LINE → HasRoom stack
+room_in : (version : Version) (mode : Mode) (stack : List Frame) (text : List ℕ)
+    → StandsFor version text (state mode stack) → length text ≤ MOST_LINE → HasRoom stack
 room_in version Start stack text is few = room_front version stack [] text (append-nil (before version stack) ∙ is.bytes) few
 room_in version Opened stack text is few = room_front version stack _ text is.bytes few
 room_in version Behind stack text is few = room_behind version stack text is.placed is.bytes few
@@ -99,11 +102,15 @@ pub reached : (version : Version) (front : List ℕ) (s : State) → steps versi
 reached version front s e = steps_stand version [] front (state Start []) s (start_stands version) e
 
 -- a state that was reached in a line has room
-pub room_reached : (version : Version) (text : List ℕ) (at : ℕ) (mode : Mode) (stack : List Frame) → at ≤ length text → length text ≤ MOST_LINE → steps version start (take at text) ≡ Some (state mode stack) → HasRoom stack
+pub room_reached : (version : Version) (text : List ℕ) (at : ℕ) (mode : Mode) (stack : List Frame)
+    → at ≤ length text → length text ≤ MOST_LINE → steps version start (take at text) ≡ Some (state mode stack)
+    → HasRoom stack
 room_reached version text at mode stack within few e =
     room_in version mode stack (take at text) (reached version (take at text) (state mode stack) e) (omega (arith, length-take-le at text within))
 
-pub step_more : (version : Version) (text : List ℕ) (at : ℕ) (s : State) → at < length text → steps version start (take at text) ≡ Some s → steps version start (take (at + 1) text) ≡ step version s.mode s.stack (get_or text at 0)
+pub step_more : (version : Version) (text : List ℕ) (at : ℕ) (s : State)
+    → at < length text → steps version start (take at text) ≡ Some s
+    → steps version start (take (at + 1) text) ≡ step version s.mode s.stack (get_or text at 0)
 step_more version text at s low e =
     let count : at + 1 ≡ suc at = omega arith in
     ap (λ n. steps version start (take n text)) count
@@ -113,7 +120,9 @@ step_more version text at s low e =
 
 -- ---- a byte that is refused
 
-refused_front : (version : Version) (front : List ℕ) (byte : ℕ) (rest : List ℕ) (s : State) (t : TreeV) → steps version start front ≡ Some s → step version s.mode s.stack byte ≡ None → IsTextOf version t (front ++ byte ∷ rest) → ⊥
+refused_front : (version : Version) (front : List ℕ) (byte : ℕ) (rest : List ℕ) (s : State) (t : TreeV)
+    → steps version start front ≡ Some s → step version s.mode s.stack byte ≡ None
+    → IsTextOf version t (front ++ byte ∷ rest) → ⊥
 refused_front version front byte rest s t e refused is =
     let read = text_run version t (front ++ byte ∷ rest) is in
     let nothing : end_of (steps version start (front ++ byte ∷ rest)) ≡ None =
@@ -131,7 +140,10 @@ cut_at (x ∷ xs) (suc at) k low =
     let count : suc at + suc k ≡ suc (at + suc k) = omega arith in
     rw count (ap (λ l. x ∷ l) (cut_at xs at k (omega arith)))
 
-no_further : (version : Version) (text : List ℕ) (at : ℕ) (s : State) → at < length text → steps version start (take at text) ≡ Some s → step version s.mode s.stack (get_or text at 0) ≡ None → (p : ℕ) → p ≤ length text → BeginsText version (take p text) → p ≤ at
+no_further : (version : Version) (text : List ℕ) (at : ℕ) (s : State)
+    → at < length text → steps version start (take at text) ≡ Some s
+    → step version s.mode s.stack (get_or text at 0) ≡ None → (p : ℕ)
+    → p ≤ length text → BeginsText version (take p text) → p ≤ at
 no_further version text at s low e refused p within (t, rest, is) = elim (cases_lt at p) [
   | inl past ↦ (
       let count : p ≡ at + suc (p - suc at) = omega arith in
@@ -144,10 +156,20 @@ no_further version text at s low e refused p within (t, rest, is) = elim (cases_
 ]
 
 whole_begins : (version : Version) (text : List ℕ) (t : TreeV) → IsTextOf version t text → BeginsText version (take (length text) text)
-whole_begins version text t is =
-    (t, [], record { fits = is.fits; parts = is.parts; spelled = append-nil (take (length text) text) ∙ take_all (length text) text (omega arith) ∙ is.spelled })
+whole_begins version text t is = (
+  t,
+  [],
+  record {
+    fits = is.fits;
+    parts = is.parts;
+    spelled = append-nil (take (length text) text)
+        ∙ take_all (length text) text (omega arith) ∙ is.spelled;
+  },
+)
 
-pub refused_place : (version : Version) (text : List ℕ) (at : ℕ) (s : State) → at < length text → steps version start (take at text) ≡ Some s → step version s.mode s.stack (get_or text at 0) ≡ None → IsFaultPlace version text at
+pub refused_place : (version : Version) (text : List ℕ) (at : ℕ) (s : State)
+    → at < length text → steps version start (take at text) ≡ Some s
+    → step version s.mode s.stack (get_or text at 0) ≡ None → IsFaultPlace version text at
 refused_place version text at s low e refused =
     let greatest = no_further version text at s low e refused in
     record {
@@ -159,13 +181,17 @@ refused_place version text at s low e refused =
 
 -- ---- the end
 
-pub ended_place : (version : Version) (text : List ℕ) (s : State) → steps version start text ≡ Some s → ended s.mode s.stack ≡ None → IsFaultPlace version text (length text)
+pub ended_place : (version : Version) (text : List ℕ) (s : State) → steps version start text ≡ Some s
+    → ended s.mode s.stack ≡ None → IsFaultPlace version text (length text)
 ended_place version text s e nothing = record {
   no_tree = λ t is. (let clash : None ≡ Some t = sym nothing ∙ ap end_of (sym e) ∙ text_run version t text is in cc);
   within = omega arith;
-  begins = (let P : List ℕ → Type 0 = λ l. BeginsText version l in subst P (sym (take_all (length text) text (omega arith))) (state_begins version s.mode s.stack text (reached version text s e)));
+  begins = (let P : List ℕ → Type 0 = λ l. BeginsText version l in
+      subst P (sym (take_all (length text) text (omega arith))) (state_begins version s.mode s.stack text
+      (reached version text s e)));
   greatest = λ p within begins. within;
 }
 
-pub ended_tree : (version : Version) (text : List ℕ) (s : State) (t : TreeV) → steps version start text ≡ Some s → ended s.mode s.stack ≡ Some t → IsTextOf version t text
+pub ended_tree : (version : Version) (text : List ℕ) (s : State) (t : TreeV) → steps version start text ≡ Some s
+    → ended s.mode s.stack ≡ Some t → IsTextOf version t text
 ended_tree version text s t e is = ended_is version s.mode s.stack text t (reached version text s e) is

@@ -1,6 +1,7 @@
 -- How far the reader's code comes in a text, and where it stops.
 use Rattle.std.specs.Prelude.{slice_index, Result, Ok, Err, IfOk, IfErr}
-use Rattle.std.proofs.Common.{◌≡◌, ℕ, zero, suc, ◌+◌, ◌-◌, ◌*◌, ◌^◌, ◌<◌, ◌≤◌, ◌==◌, true, false, List, [], ◌∷◌, ◌++◌, length, take, drop, Option, Some, None, refl, sym, ap, ◌∙◌, subst, arith, inl, inr}
+use Rattle.std.proofs.Common.{◌≡◌, ℕ, zero, suc, ◌+◌, ◌-◌, ◌*◌, ◌^◌, ◌<◌, ◌≤◌, ◌==◌, true, false, List, [], ◌∷◌, ◌++◌}
+use Rattle.std.proofs.Common.{length, take, drop, Option, Some, None, refl, sym, ap, ◌∙◌, subst, arith, inl, inr}
 use Rattle.std.proofs.lemmas.Bool.{cases_lt, le-leb}
 use Rattle.std.proofs.lemmas.List.{take_all, length-drop, get_or-drop}
 use Rattle.std.proofs.Math.Seq.{take-suc}
@@ -19,7 +20,8 @@ use Rattle.csn_treetext.specs.Text.{is_short}
 use Rattle.csn_treetext.specs.Place.{IsTextOf, IsFaultPlace, IsFaultOf}
 use Rattle.csn_treetext.specs.reader.Mode.{Mode, Start, Done, Width, Value, Number, Name, Octets, Bare}
 use Rattle.csn_treetext.specs.reader.Numeral.{digit_of, grown, greatest_of}
-use Rattle.csn_treetext.specs.reader.Machine.{State, state, with_tree, after_number, are_many, cut_octets, upper_value, is_bit_digit, name_after, step, steps, ended}
+use Rattle.csn_treetext.specs.reader.Machine.{State, state, with_tree, after_number, are_many, cut_octets}
+use Rattle.csn_treetext.specs.reader.Machine.{upper_value, is_bit_digit, name_after, step, steps, ended}
 use Rattle.csn_treetext.specs.reader.Reading.{Comes, Stands, Takes, Grows, LeadsTo}
 use Rattle.csn_treetext.proofs.Numerals.{grew_next, at_most-some}
 use Rattle.csn_treetext.proofs.Names.{not_greater}
@@ -32,30 +34,39 @@ use Rattle.csn_treetext.proofs.Places.{step_more, refused_place, ended_place, en
 pub led : {version : Version} {text : List ℕ} {at : ℕ} {s : State} → Comes version text at s → Stands version text at s
 led {s = s} e = record { led = s; comes = e; goes_on = λ _. refl; ends = λ _. refl }
 
-pub led_on : (version : Version) (text : List ℕ) (at : ℕ) (s next : State) → at < length text → Stands version text at s → step version s.mode s.stack (slice_index text at) ≡ Some next → Comes version text (at + 1) next
+pub led_on : (version : Version) (text : List ℕ) (at : ℕ) (s next : State)
+    → at < length text → Stands version text at s → step version s.mode s.stack (slice_index text at) ≡ Some next
+    → Comes version text (at + 1) next
 led_on version text at s next low h e = step_more version text at h.led low h.comes ∙ h.goes_on low ∙ e
 
-pub came_on : (version : Version) (text : List ℕ) (at : ℕ) (s next : State) → at < length text → Comes version text at s → step version s.mode s.stack (slice_index text at) ≡ Some next → Comes version text (at + 1) next
+pub came_on : (version : Version) (text : List ℕ) (at : ℕ) (s next : State)
+    → at < length text → Comes version text at s → step version s.mode s.stack (slice_index text at) ≡ Some next
+    → Comes version text (at + 1) next
 came_on version text at s next low h e = step_more version text at s low h ∙ e
 
 -- what reaches to a place reaches to the places before it
-takes_from : (version : Version) (text : List ℕ) (from at : ℕ) (stack : List Frame) (taken : Taken) → from ≤ at → Takes version text at stack taken → Takes version text from stack taken
+takes_from : (version : Version) (text : List ℕ) (from at : ℕ) (stack : List Frame) (taken : Taken)
+    → from ≤ at → Takes version text at stack taken → Takes version text from stack taken
 takes_from version text from at stack (Up next end) low h = (omega (arith, h.0), h.1, h.2, h.3)
 takes_from version text from at stack (Whole t end) low h = h
 takes_from version text from at stack (Refused place) low h = h
 
-pub gives_from : {E : Type 0} (version : Version) (text : List ℕ) (from at : ℕ) (stack : List Frame) (result : Result Taken E) → from ≤ at → IfOk result (Takes version text at stack) → IfOk result (Takes version text from stack)
+pub gives_from : {E : Type 0} (version : Version) (text : List ℕ) (from at : ℕ) (stack : List Frame)
+    (result : Result Taken E) → from ≤ at → IfOk result (Takes version text at stack)
+    → IfOk result (Takes version text from stack)
 gives_from version text from at stack (Ok taken) low h = takes_from version text from at stack taken low h
 gives_from version text from at stack (Err e) low h = tt
 
 -- ---- the place where no text goes on
 
 -- what leads to a state at the end of a text
-at_end : (version : Version) (text : List ℕ) (at : ℕ) (s : State) → length text ≤ at → Comes version text at s → steps version (Some (state Start [])) text ≡ Some s
+at_end : (version : Version) (text : List ℕ) (at : ℕ) (s : State) → length text ≤ at → Comes version text at s
+    → steps version (Some (state Start [])) text ≡ Some s
 at_end version text at s past e = ap (λ l. steps version (Some (state Start [])) l) (sym (take_all at text past)) ∙ e
 
 pub stopped : (version : Version) (text : List ℕ) (at : ℕ) (s : State) → at ≤ length text → Stands version text at s
-    → (at < length text → step version s.mode s.stack (slice_index text at) ≡ None) → (length text ≤ at → ended s.mode s.stack ≡ None) → IsFaultPlace version text at
+    → (at < length text → step version s.mode s.stack (slice_index text at) ≡ None)
+    → (length text ≤ at → ended s.mode s.stack ≡ None) → IsFaultPlace version text at
 stopped version text at s within h refuses nothing = elim (cases_lt at (length text)) [
   | inl low ↦ refused_place version text at h.led low h.comes (h.goes_on low ∙ refuses low)
   | inr high ↦ (
@@ -66,19 +77,24 @@ stopped version text at s within h refuses nothing = elim (cases_lt at (length t
 
 -- after bytes that only the next one ends, or refuses
 pub came_to_stop : (version : Version) (text : List ℕ) (at : ℕ) (s : State) → at ≤ length text → Comes version text at s
-    → (at < length text → step version s.mode s.stack (slice_index text at) ≡ None) → (length text ≤ at → ended s.mode s.stack ≡ None) → IsFaultPlace version text at
+    → (at < length text → step version s.mode s.stack (slice_index text at) ≡ None)
+    → (length text ≤ at → ended s.mode s.stack ≡ None) → IsFaultPlace version text at
 came_to_stop version text at s within e refuses nothing = stopped version text at s within (led e) refuses nothing
 
-pub whole_tree : (version : Version) (text : List ℕ) (at : ℕ) (t : TreeV) (stack : List Frame) → length text ≤ at → Stands version text at (state (Done t) stack) → IsTextOf version t text
+pub whole_tree : (version : Version) (text : List ℕ) (at : ℕ) (t : TreeV) (stack : List Frame)
+    → length text ≤ at → Stands version text at (state (Done t) stack) → IsTextOf version t text
 whole_tree version text at t stack past h = ended_tree version text h.led t (at_end version text at h.led past h.comes) (h.ends past)
 
 -- a whole tree is that of the text where the text ends with it
-pub whole_text : (version : Version) (text : List ℕ) (end : ℕ) (t : TreeV) (stack : List Frame) (result : Result TreeV TextFault) → Stands version text end (state (Done t) stack)
+pub whole_text : (version : Version) (text : List ℕ) (end : ℕ) (t : TreeV) (stack : List Frame)
+    (result : Result TreeV TextFault) → Stands version text end (state (Done t) stack)
     → IfOk result (λ u. (u ≡ t) × (end ≡ length text)) → IfOk result (λ u. IsTextOf version u text)
-whole_text version text end t stack (Ok u) stands (same, whole) = subst (λ x. IsTextOf version x text) (sym same) (whole_tree version text end t stack (omega arith) stands)
+whole_text version text end t stack (Ok u) stands (same, whole) = subst (λ x. IsTextOf version x text) (sym same)
+    (whole_tree version text end t stack (omega arith) stands)
 whole_text version text end t stack (Err e) stands is = tt
 
-pub whole_refused : (version : Version) (text : List ℕ) (end : ℕ) (t : TreeV) (stack : List Frame) (result : Result TreeV TextFault) → end ≤ length text → Stands version text end (state (Done t) stack)
+pub whole_refused : (version : Version) (text : List ℕ) (end : ℕ) (t : TreeV) (stack : List Frame)
+    (result : Result TreeV TextFault) → end ≤ length text → Stands version text end (state (Done t) stack)
     → IfErr result (λ fault. (fault ≡ Place end) × (end ≡ length text → ⊥)) → IfErr result (IsFaultOf version text)
 whole_refused version text end t stack (Ok u) within stands is = tt
 whole_refused version text end t stack (Err e) within stands (same, more) =
@@ -115,7 +131,8 @@ value_grows version width stack number byte next e = ap (λ o. after_number o wi
 
 -- a number is read where its first digit leads to it, and each other digit grows it
 pub numeral_led :
-    (version : Version) (text : List ℕ) (from most bound first end number : ℕ) (to : ℕ → Mode) (stack : List Frame) → most ≡ bound → Grows version bound to stack
+    (version : Version) (text : List ℕ) (from most bound first end number : ℕ) (to : ℕ → Mode) (stack : List Frame)
+    → most ≡ bound → Grows version bound to stack
     → (grown bound None (slice_index text from) ≡ Some first → Comes version text (from + 1) (state (to first) stack))
     → grown most None (slice_index text from) ≡ Some first → LeadsTo most text (from + 1) first end number → Comes version text end (state (to number) stack)
 numeral_led version text from most bound first end number to stack is grows begins begun leads =
@@ -131,11 +148,13 @@ value_closed version text at width number stack e stops =
     record {
       led = state (Value width number) stack;
       comes = e;
-      goes_on = λ low. ap (λ o. after_number o width number stack (slice_index text at)) (stops low) ∙ sym (tree_closed version stack leaf (slice_index text at));
+      goes_on = λ low. ap (λ o. after_number o width number stack (slice_index text at)) (stops low)
+          ∙ sym (tree_closed version stack leaf (slice_index text at));
       ends = λ _. sym (tree_ended stack leaf);
     }
 
-pub octets_closed : (text : List ℕ) (at : ℕ) (octets : List ℕ) (stack : List Frame) → Comes Second text at (state (Octets octets None) stack) → 9 ≤ length octets
+pub octets_closed : (text : List ℕ) (at : ℕ) (octets : List ℕ) (stack : List Frame)
+    → Comes Second text at (state (Octets octets None) stack) → 9 ≤ length octets
     → (at < length text → upper_value (slice_index text at) ≡ None) → (at < length text → (slice_index text at == 47) ≡ false)
     → Stands Second text at (with_tree stack (cut_octets octets 8))
 octets_closed text at octets stack e many stops other =
@@ -144,7 +163,8 @@ octets_closed text at octets stack e many stops other =
     record {
       led = state (Octets octets None) stack;
       comes = e;
-      goes_on = λ low. (let none = stops low in let not_slash = other low in (rw (none, count, not_slash) refl) ∙ sym (tree_closed Second stack leaf (slice_index text at)));
+      goes_on = λ low. (let none = stops low in let not_slash = other low in
+          (rw (none, count, not_slash) refl) ∙ sym (tree_closed Second stack leaf (slice_index text at)));
       ends = λ _. (rw count refl) ∙ sym (tree_ended stack leaf);
     }
 
@@ -161,7 +181,8 @@ bits_closed text at b stack e long stops =
 
 -- ---- pieces of a text
 
-pub piece_more : (text : List ℕ) (from at : ℕ) → from ≤ at → at < length text → take (at + 1 - from) (drop from text) ≡ take (at - from) (drop from text) ++ slice_index text at ∷ []
+pub piece_more : (text : List ℕ) (from at : ℕ) → from ≤ at → at < length text
+    → take (at + 1 - from) (drop from text) ≡ take (at - from) (drop from text) ++ slice_index text at ∷ []
 piece_more text from at begins low =
     let count : at + 1 - from ≡ suc (at - from) = omega arith in
     let place : from + (at - from) ≡ at = omega arith in
@@ -181,6 +202,7 @@ pub name_more : (version : Version) (text : List ℕ) (from at : ℕ) (stands ne
 name_more version text from at stands next stack begins low e after =
     let front : List ℕ = take (at - from) (drop from text) in
     let other = not_greater stands next (slice_index text at) after in
-    let one : step version (Name front stands) stack (slice_index text at) ≡ Some (state (Name (front ++ slice_index text at ∷ []) next) stack) = rw (other, after) refl in
+    let one : step version (Name front stands) stack (slice_index text at) ≡ Some
+    (state (Name (front ++ slice_index text at ∷ []) next) stack) = rw (other, after) refl in
     came_on version text at (state (Name front stands) stack) (state (Name (take (at + 1 - from) (drop from text)) next) stack) low e
     (one ∙ ap (λ l. Some (state (Name l next) stack)) (sym (piece_more text from at begins low)))

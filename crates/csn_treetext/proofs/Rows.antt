@@ -21,7 +21,8 @@ member_size (u ∷ trees) (suc at) t h =
     omega arith
 
 -- a tree of a row is smaller than the row
-pub smaller_in_row : (tree : TreeV) (shape : Shape) (rows : List TreeV) (at : ℕ) (t : TreeV) → shape_view shape ≡ tree → shape ≡ Row rows → slice_get rows at ≡ Some t → tree_size t < tree_size tree
+pub smaller_in_row : (tree : TreeV) (shape : Shape) (rows : List TreeV) (at : ℕ) (t : TreeV)
+    → shape_view shape ≡ tree → shape ≡ Row rows → slice_get rows at ≡ Some t → tree_size t < tree_size tree
 smaller_in_row tree shape rows at t view is get =
     let whole : tree_size tree ≡ rows_size rows + 1 = ap tree_size (sym view) ∙ ap (λ s. tree_size (shape_view s)) is in
     omega (arith, member_size rows at t get, whole)
@@ -32,7 +33,8 @@ take_next [] at x h = absurd (cc)
 take_next (y ∷ xs) zero x h = let same : y ≡ x = cc in ap (λ z. z ∷ []) same
 take_next (y ∷ xs) (suc at) x h = ap (λ l. y ∷ l) (take_next xs at x h)
 
-rest_text-push : (version : Version) (ts : List TreeV) (t : TreeV) → rest_text version (trees_of (ts ++ t ∷ [])) ≡ rest_text version (trees_of ts) ++ 32 ∷ text_of version t
+rest_text-push : (version : Version) (ts : List TreeV) (t : TreeV)
+    → rest_text version (trees_of (ts ++ t ∷ [])) ≡ rest_text version (trees_of ts) ++ 32 ∷ text_of version t
 rest_text-push version [] t = ap (λ l. 32 ∷ l) (append-nil (text_of version t))
 rest_text-push version (u ∷ ts) t =
     ap (λ l. 32 ∷ l)
@@ -44,7 +46,9 @@ pub row_text-one : (version : Version) (t : TreeV) → row_text version (trees_o
 row_text-one version t = append-nil (text_of version t)
 
 -- one more tree in a row that has some
-pub row_text-push : (version : Version) (u : TreeV) (ts : List TreeV) (t : TreeV) → row_text version (trees_of ((u ∷ ts) ++ t ∷ [])) ≡ row_text version (trees_of (u ∷ ts)) ++ 32 ∷ text_of version t
+pub row_text-push : (version : Version) (u : TreeV) (ts : List TreeV) (t : TreeV)
+    → row_text version (trees_of ((u ∷ ts) ++ t ∷ [])) ≡ row_text version (trees_of (u ∷ ts))
+    ++ 32 ∷ text_of version t
 row_text-push version u ts t =
     ap (λ l. text_of version u ++ l) (rest_text-push version ts t)
     ∙ sym (append_assoc (text_of version u) (rest_text version (trees_of ts)) (32 ∷ text_of version t))
@@ -81,10 +85,14 @@ wrote_next version before after (u ∷ trees) (suc at) t h some wrote =
 pub wrote_on : (version : Version) (before gap after : List ℕ) (trees : List TreeV) (at : ℕ) (t : TreeV) → slice_get trees at ≡ Some t
     → (at ≡ 0 → gap ≡ before) → (0 < at → gap ≡ before ++ 32 ∷ []) → before ≡ after ++ 91 ∷ row_text version (trees_of (take at trees))
     → gap ++ text_of version t ≡ after ++ 91 ∷ row_text version (trees_of (take (at + 1) trees))
-wrote_on version before gap after trees zero t h first later wrote = ap (λ l. l ++ text_of version t) (first (omega arith)) ∙ wrote_first version before after trees 0 t h (omega arith) wrote
-wrote_on version before gap after trees (suc at) t h first later wrote = ap (λ l. l ++ text_of version t) (later (omega arith)) ∙ wrote_next version before after trees (suc at) t h (omega arith) wrote
+wrote_on version before gap after trees zero t h first later wrote = ap (λ l. l ++ text_of version t)
+    (first (omega arith)) ∙ wrote_first version before after trees 0 t h (omega arith) wrote
+wrote_on version before gap after trees (suc at) t h first later wrote = ap (λ l. l ++ text_of version t)
+    (later (omega arith)) ∙ wrote_next version before after trees (suc at) t h (omega arith) wrote
 
-pub have_next : (trees : List TreeV) (at : ℕ) (t : TreeV) → slice_get trees at ≡ Some t → AllHaveTreeParts (trees_of (take at trees)) → HasTreeParts t → AllHaveTreeParts (trees_of (take (at + 1) trees))
+pub have_next : (trees : List TreeV) (at : ℕ) (t : TreeV)
+    → slice_get trees at ≡ Some t → AllHaveTreeParts (trees_of (take at trees))
+    → HasTreeParts t → AllHaveTreeParts (trees_of (take (at + 1) trees))
 have_next trees at t h all this =
     let count : at + 1 ≡ suc at = omega arith in
     rw count (rw (take_next trees at t h) (AllHaveTreeParts-push (take at trees) t all this))

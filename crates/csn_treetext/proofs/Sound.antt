@@ -1,6 +1,7 @@
 -- A step adds its byte to the bytes that the state stands for; at the end these are the text of the tree.
 use Rattle.std.specs.Prelude.{nat_lt, nat_le}
-use Rattle.std.proofs.Common.{◌≡◌, ℕ, ◌+◌, ◌-◌, ◌<◌, ◌≤◌, ◌==◌, true, ◌&&◌, List, [], ◌∷◌, ◌++◌, length, Option, Some, None, refl, sym, ap, ◌∙◌, subst, arith, append_assoc, append-nil}
+use Rattle.std.proofs.Common.{◌≡◌, ℕ, ◌+◌, ◌-◌, ◌<◌, ◌≤◌, ◌==◌, true, ◌&&◌, List, [], ◌∷◌, ◌++◌, length, Option, Some}
+use Rattle.std.proofs.Common.{None, refl, sym, ap, ◌∙◌, subst, arith, append_assoc, append-nil}
 use Rattle.std.specs.Fmt.{decimal}
 use Rattle.std.proofs.lemmas.Fmt.{decimal_digit}
 use Rattle.std.proofs.lemmas.Bool.{ltb-true, leb-true, and_parts}
@@ -18,15 +19,22 @@ use Rattle.csn_treetext.specs.reader.Mode.{Mode}
 use Rattle.csn_treetext.specs.reader.Mode.{Start, Opened, Behind, Done, Width, Quote, Value, Hash, Number, Name, NameEnd, Octets, Slash, Bare}
 use Rattle.csn_treetext.specs.Text.{text_of, bit_digits, is_short}
 use Rattle.csn_bits.specs.Numbers.{low_bits}
-use Rattle.csn_treetext.specs.reader.Machine.{State, state, IsMode, AreOctets, with_tree, begun, begun_b, begun_x, inside, after_name, after_width, after_quote, after_hash, after_high, are_many, upper_value, cut_octets, step, step_from, steps, root_of, root_at, ended}
+use Rattle.csn_treetext.specs.reader.Machine.{State, state, IsMode, AreOctets, with_tree, begun, begun_b, begun_x}
+use Rattle.csn_treetext.specs.reader.Machine.{inside, after_name, after_width, after_quote, after_hash, after_high}
+use Rattle.csn_treetext.specs.reader.Machine.{are_many, upper_value, cut_octets, step, step_from, steps, root_of}
+use Rattle.csn_treetext.specs.reader.Machine.{root_at, ended}
 use Rattle.csn_treetext.specs.Place.{IsTextOf}
 use Rattle.csn_treetext.proofs.Spelled.{before, spelled, IsTree, IsStack, IsPlaced, StandsFor, level_low, row_is_tree, tree_stands}
 use Rattle.csn_treetext.proofs.WholeTrees.{if_gave, given, nothing_given, spelled_as, with_byte, number_text, number_is_tree, cut_is_tree, after_stands}
-use Rattle.csn_treetext.proofs.LeafSteps.{with_stands, width_stands, quote_stands, value_stands, hash_stands, number_stands, name_stands, high_stands, many_text, octets_stand, slash_stands, bits_stand}
+use Rattle.csn_treetext.proofs.LeafSteps.{with_stands, width_stands, quote_stands, value_stands, hash_stands}
+use Rattle.csn_treetext.proofs.LeafSteps.{number_stands, name_stands, high_stands, many_text, octets_stand}
+use Rattle.csn_treetext.proofs.LeafSteps.{slash_stands, bits_stand}
 
 -- ---- the first byte of a tree
 
-inside_stands : (version : Version) (stack : List Frame) (mode : Mode) (text : List ℕ) (s : State) → (length stack < MOST_ROUND → StandsFor version text (state mode stack)) → inside stack mode ≡ Some s → StandsFor version text s
+inside_stands : (version : Version) (stack : List Frame) (mode : Mode) (text : List ℕ) (s : State)
+    → (length stack < MOST_ROUND → StandsFor version text (state mode stack))
+    → inside stack mode ≡ Some s → StandsFor version text s
 inside_stands version stack mode text s is e =
     if_gave (nat_lt (length stack) MOST_ROUND) _ _ _ e (λ low e1. given _ s e1 (is (ltb-true _ _ low))) (λ _ e1. nothing_given s e1)
 
@@ -37,12 +45,14 @@ begun_b_stands Second stack h = tree_stands Second stack (bits []) h (record { f
 no_octets : AreOctets []
 no_octets k = omega arith
 
-begun_x_stands : (version : Version) (stack : List Frame) (s : State) → IsStack stack → begun_x version stack ≡ Some s → StandsFor version (before version stack ++ 120 ∷ []) s
+begun_x_stands : (version : Version) (stack : List Frame) (s : State) → IsStack stack → begun_x version stack ≡ Some s
+    → StandsFor version (before version stack ++ 120 ∷ []) s
 unfolding encode_with
 begun_x_stands First stack s h e = nothing_given s e
 begun_x_stands Second stack s h e = given _ s e (record { stack = h; mode = (no_octets, omega arith); placed = refl; bytes = refl })
 
-begun_stands : (version : Version) (stack : List Frame) (byte : ℕ) (s : State) → IsStack stack → begun version stack byte ≡ Some s → StandsFor version (before version stack ++ byte ∷ []) s
+begun_stands : (version : Version) (stack : List Frame) (byte : ℕ) (s : State)
+    → IsStack stack → begun version stack byte ≡ Some s → StandsFor version (before version stack ++ byte ∷ []) s
 begun_stands version stack byte s h e =
     let front : List ℕ = before version stack in
     let low = level_low stack h in
@@ -53,7 +63,8 @@ begun_stands version stack byte s h e =
     (λ _ e2. if_gave (byte == 35) _ _ _ e2
     (λ is e3. inside_stands version stack Hash _ s (λ few. with_byte front byte 35 is (record { stack = h; mode = tt; placed = few; bytes = refl })) e3)
     (λ _ e3. if_gave (byte == 60) _ _ _ e3
-    (λ is e4. inside_stands version stack (Name [] Front) _ s (λ few. with_byte front byte 60 is (record { stack = h; mode = refl; placed = few; bytes = refl })) e4)
+    (λ is e4. inside_stands version stack (Name [] Front) _ s
+    (λ few. with_byte front byte 60 is (record { stack = h; mode = refl; placed = few; bytes = refl })) e4)
     (λ _ e4. if_gave (byte == 98) _ _ _ e4
     (λ is e5. given _ s e5 (with_byte front byte 98 is (begun_b_stands version stack h)))
     (λ _ e5. if_gave (byte == 120) _ _ _ e5
@@ -76,7 +87,9 @@ begun_stands version stack byte s h e =
 
 -- ---- a step, and many
 
-pub step_stands : (version : Version) (mode : Mode) (stack : List Frame) (byte : ℕ) (s : State) → IsStack stack → IsMode mode → IsPlaced version mode stack → step version mode stack byte ≡ Some s → StandsFor version (spelled version mode stack ++ byte ∷ []) s
+pub step_stands : (version : Version) (mode : Mode) (stack : List Frame) (byte : ℕ) (s : State)
+    → IsStack stack → IsMode mode → IsPlaced version mode stack → step version mode stack byte ≡ Some s
+    → StandsFor version (spelled version mode stack ++ byte ∷ []) s
 step_stands version Start stack byte s h m p e = begun_stands version stack byte s h e
 step_stands version Opened stack byte s h m p e =
     if_gave (byte == 93) _ _ _ e
@@ -88,8 +101,10 @@ step_stands version Opened stack byte s h m p e =
     (λ _ e2. nothing_given s e2))
 step_stands version Behind stack byte s h m p e = after_stands version stack byte s h p e
 step_stands version (Done t) stack byte s h m p e = nothing_given s e
-step_stands version (Width width) stack byte s h m p e = with_stands version stack _ (after_width width byte) s (λ mode is. width_stands version width stack byte mode h m is) e
-step_stands version (Quote width) stack byte s h m p e = with_stands version stack _ (after_quote width byte) s (λ mode is. quote_stands version width stack byte mode h m is) e
+step_stands version (Width width) stack byte s h m p e = with_stands version stack _ (after_width width byte) s
+    (λ mode is. width_stands version width stack byte mode h m is) e
+step_stands version (Quote width) stack byte s h m p e = with_stands version stack _ (after_quote width byte) s
+    (λ mode is. quote_stands version width stack byte mode h m is) e
 step_stands version (Value width number) stack byte s h m p e = value_stands version width number stack byte s h m e
 step_stands version Hash stack byte s h m p e = with_stands version stack _ (after_hash None byte) s (λ mode is. hash_stands version stack byte mode h p is) e
 step_stands version (Number number) stack byte s h m p e =
@@ -101,7 +116,8 @@ step_stands version (Number number) stack byte s h m p e =
       bytes = sym (append_assoc (before version stack) (35 ∷ decimal number) (58 ∷ []));
     })))
     (λ _ e1. with_stands version stack _ (after_hash (Some number) byte) s (λ mode is. number_stands version number stack byte mode h p is) e1)
-step_stands version (Name name at) stack byte s h m p e = with_stands version stack _ (after_name name at byte) s (λ mode is. name_stands version name at stack byte mode h m p is) e
+step_stands version (Name name at) stack byte s h m p e = with_stands version stack _ (after_name name at byte) s
+    (λ mode is. name_stands version name at stack byte mode h m p is) e
 step_stands version (NameEnd name) stack byte s h m p e =
     if_gave (byte == 61) _ _ _ e
     (λ is e1. given _ s e1 (with_byte (before version stack ++ 60 ∷ (name ++ 62 ∷ [])) byte 61 is (record {
@@ -133,11 +149,15 @@ pub steps-append : (version : Version) (o : Option State) (a b : List ℕ) → s
 steps-append version o [] b = refl
 steps-append version o (byte ∷ a) b = steps-append version (step_from version o byte) a b
 
-pub steps_stand : (version : Version) (front text : List ℕ) (s t : State) → StandsFor version front s → steps version (Some s) text ≡ Some t → StandsFor version (front ++ text) t
+pub steps_stand : (version : Version) (front text : List ℕ) (s t : State)
+    → StandsFor version front s → steps version (Some s) text ≡ Some t → StandsFor version (front ++ text) t
 steps_stand version front [] s t is e = spelled_as t (sym (append-nil front)) (given s t e is)
-steps_stand version front (byte ∷ rest) s t is e = by_step (λ u h g. steps_stand version (front ++ byte ∷ []) rest u t h g) (step version s.mode s.stack byte) refl
+steps_stand version front (byte ∷ rest) s t is e =
+    by_step (λ u h g. steps_stand version (front ++ byte ∷ []) rest u t h g) (step version s.mode s.stack byte) refl
   where
-    by_step : ((u : State) → StandsFor version (front ++ byte ∷ []) u → steps version (Some u) rest ≡ Some t → StandsFor version ((front ++ byte ∷ []) ++ rest) t) → (o : Option State) → step version s.mode s.stack byte ≡ o → StandsFor version (front ++ byte ∷ rest) t
+    by_step : ((u : State) → StandsFor version (front ++ byte ∷ []) u → steps version (Some u) rest ≡ Some t
+        → StandsFor version ((front ++ byte ∷ []) ++ rest) t) → (o : Option State)
+        → step version s.mode s.stack byte ≡ o → StandsFor version (front ++ byte ∷ rest) t
     by_step again None refused = absurd (let z : None ≡ Some t = sym (steps-none version rest) ∙ ap (λ o. steps version o rest) (sym refused) ∙ e in cc)
     by_step again (Some u) some =
         let next = spelled_as u (ap (λ l. l ++ byte ∷ []) is.bytes) (step_stands version s.mode s.stack byte u is.stack is.mode is.placed some) in
@@ -148,14 +168,17 @@ start_stands version = record { stack = tt; mode = tt; placed = tt; bytes = refl
 
 -- ---- the end
 
-root_is : (version : Version) (mode : Mode) (stack : List Frame) (text : List ℕ) (t : TreeV) → StandsFor version text (state mode stack) → root_at mode ≡ Some t → IsTextOf version t text
+root_is : (version : Version) (mode : Mode) (stack : List Frame) (text : List ℕ) (t : TreeV)
+    → StandsFor version text (state mode stack) → root_at mode ≡ Some t → IsTextOf version t text
 root_is version (Done u) stack text t is e =
     let same : u ≡ t = cc in
     let P : TreeV → Type 0 = λ v. IsTextOf version v text in
     subst P same (record { fits = is.placed.1.fits; parts = is.placed.1.parts; spelled = sym is.bytes })
 root_is version mode stack text t is e = absurd (let z : None ≡ Some t = e in cc)
 
-root_of_tree : (version : Version) (stack : List Frame) (leaf t : TreeV) (text : List ℕ) → IsStack stack → IsTree (length stack) leaf → before version stack ++ text_of version leaf ≡ text → root_of (with_tree stack leaf) ≡ Some t → IsTextOf version t text
+root_of_tree : (version : Version) (stack : List Frame) (leaf t : TreeV) (text : List ℕ)
+    → IsStack stack → IsTree (length stack) leaf → before version stack ++ text_of version leaf ≡ text
+    → root_of (with_tree stack leaf) ≡ Some t → IsTextOf version t text
 root_of_tree version stack leaf t text h is same e =
     root_is version (with_tree stack leaf).mode (with_tree stack leaf).stack text t (spelled_as _ same (tree_stands version stack leaf h is)) e
 
@@ -163,7 +186,8 @@ no_tree_there : {P : Type 0} (t : TreeV) → None ≡ Some t → P
 no_tree_there t e = absurd (let z : None ≡ Some t = e in cc)
 
 -- the tree at the end has the bytes as its text
-pub ended_is : (version : Version) (mode : Mode) (stack : List Frame) (text : List ℕ) (t : TreeV) → StandsFor version text (state mode stack) → ended mode stack ≡ Some t → IsTextOf version t text
+pub ended_is : (version : Version) (mode : Mode) (stack : List Frame) (text : List ℕ) (t : TreeV)
+    → StandsFor version text (state mode stack) → ended mode stack ≡ Some t → IsTextOf version t text
 ended_is version (Done u) stack text t is e = root_is version (Done u) stack text t is e
 ended_is version (Value width number) stack text t is e =
     root_of_tree version stack (bits (low_bits width number)) t text is.stack (number_is_tree (length stack) width number (level_low stack is.stack) is.mode.1)
@@ -174,8 +198,11 @@ ended_is version (Octets octets None) stack text t is e =
     (λ many e1.
     let count = leb-true _ _ many in
     let of_second : text_of version (cut_octets octets 8) ≡ 120 ∷ (encode_upper octets ++ []) =
-    (let P : Version → Type 0 = λ v. text_of v (cut_octets octets 8) ≡ 120 ∷ (encode_upper octets ++ []) in subst P (sym is.placed) (many_text octets is.mode.0 count is.mode.1)) in
-    root_of_tree version stack (cut_octets octets 8) t text is.stack (cut_is_tree (length stack) octets 8 (level_low stack is.stack) is.mode.0 (omega arith) is.mode.1 (omega arith))
+    (let P : Version → Type 0 = λ v. text_of v (cut_octets octets 8) ≡ 120 ∷ (encode_upper octets ++ []) in
+    subst P (sym is.placed) (many_text octets is.mode.0 count is.mode.1)) in
+    root_of_tree version stack (cut_octets octets 8) t text is.stack
+    (cut_is_tree (length stack) octets 8 (level_low stack is.stack) is.mode.0 (omega arith) is.mode.1
+    (omega arith))
     (ap (λ l. before version stack ++ l) of_second ∙ is.bytes) e1)
     (λ _ e1. no_tree_there t e1)
 ended_is version (Bare b) stack text t is e =

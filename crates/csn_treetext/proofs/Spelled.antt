@@ -159,13 +159,16 @@ spaced-push version (u ∷ ts) t =
 -- ---- a whole tree
 
 -- what stands before a tree and the tree, taken apart
-stands_behind : (version : Version) (front head mark text : List ℕ) {s : State} → StandsFor version (front ++ (head ++ (mark ++ text))) s → StandsFor version ((front ++ (head ++ mark)) ++ text) s
+stands_behind : (version : Version) (front head mark text : List ℕ) {s : State}
+    → StandsFor version (front ++ (head ++ (mark ++ text))) s → StandsFor version ((front ++ (head ++ mark)) ++ text)
+    s
 stands_behind version front head mark text {s} h =
     subst (λ l. StandsFor version l s)
     (ap (λ l. front ++ l) (sym (append_assoc head mark text)) ∙ sym (append_assoc front (head ++ mark) text))
     h
 
-pub tree_stands : (version : Version) (stack : List Frame) (t : TreeV) → IsStack stack → IsTree (length stack) t → StandsFor version (before version stack ++ text_of version t) (with_tree stack t)
+pub tree_stands : (version : Version) (stack : List Frame) (t : TreeV) → IsStack stack → IsTree (length stack) t
+    → StandsFor version (before version stack ++ text_of version t) (with_tree stack t)
 tree_stands version [] t h is = record { stack = tt; mode = tt; placed = (refl, is); bytes = refl }
 tree_stands version (Row ts ∷ stack) t h is = record {
   stack = (h.0, AreTrees-push (suc (length stack)) ts t h.1 is, h.2);

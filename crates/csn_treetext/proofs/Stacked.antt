@@ -27,7 +27,8 @@ last_written (x ∷ y ∷ more) (suc last) old new is there =
     (rest ++ x ∷ [], one_before x (y ∷ more) rest old before, one_before x (set (y ∷ more) last new) rest new after)
 
 -- a row that took a tree more where it stood
-pub tree_pushed : (frames : List Frame) (last : ℕ) (rows more : List TreeV) (t : TreeV) → last ≡ length frames - 1 → slice_get frames last ≡ Some (Row rows) → more ≡ rows ++ t ∷ []
+pub tree_pushed : (frames : List Frame) (last : ℕ) (rows more : List TreeV) (t : TreeV)
+    → last ≡ length frames - 1 → slice_get frames last ≡ Some (Row rows) → more ≡ rows ++ t ∷ []
     → with_tree (reverse frames) t ≡ state Behind (reverse (set frames last (Row more)))
 tree_pushed frames last rows more t is there pushed =
     let (rest, before, after) = last_written frames last (Row rows) (Row more) is there in

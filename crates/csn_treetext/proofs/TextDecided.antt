@@ -14,7 +14,10 @@ module _ (version : Version) (text : List ℕ) where
   decided_end s e None is = inr (length text, ended_place version text s e is)
   decided_end s e (Some t) is = inl (t, ended_tree version text s t e is)
 
-  decided_step : (at : ℕ) (s : State) → at < length text → steps version start (take at text) ≡ Some s → (o : Option State) → step version s.mode s.stack (get_or text at 0) ≡ o → ((next : State) → step version s.mode s.stack (get_or text at 0) ≡ Some next → Decided version text) → Decided version text
+  decided_step : (at : ℕ) (s : State) → at < length text → steps version start (take at text) ≡ Some s
+      → (o : Option State) → step version s.mode s.stack (get_or text at 0) ≡ o
+      → ((next : State) → step version s.mode s.stack (get_or text at 0) ≡ Some next → Decided version text)
+      → Decided version text
   decided_step at s low e None is further = inr (at, refused_place version text at s low e is)
   decided_step at s low e (Some next) is further = further next is
 

@@ -23,7 +23,8 @@ abbrev below : ℕ → Option ℕ
 below byte = if nat_le 97 byte then None else hex_digit_value byte
 
 below_is : (byte : ℕ) → byte < 256 → below byte ≡ upper_value byte
-below_is byte low = one_option (below byte) (upper_value byte) (eqb-true _ _ (agree_below_at (λ k. code (below k) == code (upper_value k)) (λ _. true) 256 byte refl low))
+below_is byte low = one_option (below byte) (upper_value byte)
+    (eqb-true _ _ (agree_below_at (λ k. code (below k) == code (upper_value k)) (λ _. true) 256 byte refl low))
 
 pub no_upper_digit : (byte : ℕ) → byte < 256 → 97 ≤ byte → None ≡ upper_value byte
 no_upper_digit byte low large = sym (ap (λ b. if b then None else hex_digit_value byte) (le-leb 97 byte large)) ∙ below_is byte low

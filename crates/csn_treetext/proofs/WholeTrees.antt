@@ -1,6 +1,7 @@
 -- What a whole tree ends, and the texts of leaves.
 use Rattle.std.specs.Prelude.{if◌then◌else◌, nat_le}
-use Rattle.std.proofs.Common.{◌≡◌, ℕ, ◌^◌, ◌<◌, ◌≤◌, ◌==◌, Bool, true, false, List, [], ◌∷◌, ◌++◌, length, Some, None, refl, sym, ap, ◌∙◌, subst, arith, inl, inr, append_assoc, eqb-true}
+use Rattle.std.proofs.Common.{◌≡◌, ℕ, ◌^◌, ◌<◌, ◌≤◌, ◌==◌, Bool, true, false, List, [], ◌∷◌, ◌++◌, length, Some, None}
+use Rattle.std.proofs.Common.{refl, sym, ap, ◌∙◌, subst, arith, inl, inr, append_assoc, eqb-true}
 use Rattle.std.specs.Fmt.{decimal}
 use Rattle.std.proofs.lemmas.Bool.{cases_Bool, le-leb}
 use Rattle.std.proofs.lemmas.Nat.{pow_pos}
@@ -40,7 +41,8 @@ pub is_byte : (byte k : ℕ) → (byte == k) ≡ true → k ≡ byte
 is_byte byte k h = sym (eqb-true byte k h)
 
 -- a byte in place of the numeral that it is
-pub with_byte : {version : Version} {s : State} (front : List ℕ) (byte k : ℕ) → (byte == k) ≡ true → StandsFor version (front ++ k ∷ []) s → StandsFor version (front ++ byte ∷ []) s
+pub with_byte : {version : Version} {s : State} (front : List ℕ) (byte k : ℕ)
+    → (byte == k) ≡ true → StandsFor version (front ++ k ∷ []) s → StandsFor version (front ++ byte ∷ []) s
 with_byte front byte k h is = spelled_as _ (ap (λ c. front ++ c ∷ []) (is_byte byte k h)) is
 
 -- ---- leaves
@@ -52,7 +54,8 @@ short_is b some few =
     rw (low, high) refl
 
 -- the text of the leaf of so many bits that write a number
-pub number_text : (version : Version) (width number : ℕ) → 1 ≤ width → width ≤ MOST_SHORT → number ≤ greatest_of width → text_of version (bits (low_bits width number)) ≡ decimal width ++ 39 ∷ decimal number
+pub number_text : (version : Version) (width number : ℕ) → 1 ≤ width → width ≤ MOST_SHORT → number ≤ greatest_of width
+    → text_of version (bits (low_bits width number)) ≡ decimal width ++ 39 ∷ decimal number
 number_text version width number some few small =
     let long = length-low_bits width number in
     let power : 0 < 2 ^ width = pow_pos width in
@@ -66,7 +69,8 @@ number_is_tree round width number low few = record {
   parts = (IsBits-low_bits width number, omega (arith, length-low_bits width number));
 }
 
-pub cut_is_tree : (round : ℕ) (octets : List ℕ) (used : ℕ) → round < MOST_LEVELS → AreOctets octets → 1 ≤ length octets → length octets ≤ MOST_OCTETS → used ≤ 8 → IsTree round (cut_octets octets used)
+pub cut_is_tree : (round : ℕ) (octets : List ℕ) (used : ℕ) → round < MOST_LEVELS → AreOctets octets
+    → 1 ≤ length octets → length octets ≤ MOST_OCTETS → used ≤ 8 → IsTree round (cut_octets octets used)
 cut_is_tree round octets used low are some few most = record {
   fits = low;
   parts = (IsBits-cut_bits octets used are, omega (arith, length-cut_bits octets used some most));
@@ -74,7 +78,8 @@ cut_is_tree round octets used low are some few most = record {
 
 -- ---- a byte behind a tree
 
-pub after_stands : (version : Version) (stack : List Frame) (byte : ℕ) (s : State) → IsStack stack → HasTree stack → after_tree stack byte ≡ Some s → StandsFor version (behind version stack ++ byte ∷ []) s
+pub after_stands : (version : Version) (stack : List Frame) (byte : ℕ) (s : State) → IsStack stack → HasTree stack
+    → after_tree stack byte ≡ Some s → StandsFor version (behind version stack ++ byte ∷ []) s
 after_stands version [] byte s h has e = absurd has
 after_stands version (Alt j ∷ stack) byte s h has e = absurd has
 after_stands version (Named l ∷ stack) byte s h has e = absurd has
@@ -85,7 +90,8 @@ after_stands version (Row (t ∷ ts) ∷ stack) byte s h has e =
       stack = h;
       mode = tt;
       placed = tt;
-      bytes = ap (λ l. before version stack ++ 91 ∷ l) (spaced-row version t ts) ∙ sym (append_assoc (before version stack) (91 ∷ row_text version (trees_of (t ∷ ts))) (32 ∷ []));
+      bytes = ap (λ l. before version stack ++ 91 ∷ l) (spaced-row version t ts)
+          ∙ sym (append_assoc (before version stack) (91 ∷ row_text version (trees_of (t ∷ ts))) (32 ∷ []));
     })))
     (λ _ e1. if_gave (byte == 93) _ _ _ e1
     (λ bracket e2. given _ s e2 (with_byte (behind version (Row (t ∷ ts) ∷ stack)) byte 93 bracket
@@ -93,12 +99,17 @@ after_stands version (Row (t ∷ ts) ∷ stack) byte s h has e =
     (tree_stands version stack (row (trees_of (t ∷ ts))) h.2 (row_is_tree (length stack) (t ∷ ts) (let k = h.0 in omega arith) h.1)))))
     (λ _ e2. nothing_given s e2))
 
-pub closed_mode : (version : Version) (mode : Mode) (stack : List Frame) (text : List ℕ) (byte : ℕ) (s : State) → StandsFor version text (state mode stack) → closed_at mode stack byte ≡ Some s → StandsFor version (text ++ byte ∷ []) s
+pub closed_mode : (version : Version) (mode : Mode) (stack : List Frame) (text : List ℕ) (byte : ℕ) (s : State)
+    → StandsFor version text (state mode stack) → closed_at mode stack byte ≡ Some s
+    → StandsFor version (text ++ byte ∷ []) s
 closed_mode version Behind stack text byte s is e = spelled_as s (ap (λ l. l ++ byte ∷ []) is.bytes) (after_stands version stack byte s is.stack is.placed e)
 closed_mode version mode stack text byte s is e = nothing_given s e
 
-pub closed_stands : (version : Version) (stack : List Frame) (t : TreeV) (byte : ℕ) (s : State) → IsStack stack → IsTree (length stack) t → closed stack t byte ≡ Some s → StandsFor version ((before version stack ++ text_of version t) ++ byte ∷ []) s
-closed_stands version stack t byte s h is e = closed_mode version (with_tree stack t).mode (with_tree stack t).stack (before version stack ++ text_of version t) byte s (tree_stands version stack t h is) e
+pub closed_stands : (version : Version) (stack : List Frame) (t : TreeV) (byte : ℕ) (s : State)
+    → IsStack stack → IsTree (length stack) t → closed stack t byte ≡ Some s
+    → StandsFor version ((before version stack ++ text_of version t) ++ byte ∷ []) s
+closed_stands version stack t byte s h is e = closed_mode version (with_tree stack t).mode (with_tree stack t).stack
+    (before version stack ++ text_of version t) byte s (tree_stands version stack t h is) e
 
 -- two numbers that are not one
 pub eqb-lt : (a b : ℕ) → b < a → (a == b) ≡ false

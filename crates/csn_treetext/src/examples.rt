@@ -1,6 +1,9 @@
 //! Worked examples of the texts of trees, each a clause of a function that does nothing.
 
-ghost use Rattle.csn_treetext.specs.Examples.{NothingIsADot, FewBitsAreANumber, NoBitsAreB, ManyBitsAreABlockLine, ManyBitsWereDigits, NoTreesAreBrackets, RowsHaveSpaces, GreatNumbersAreRefused, ShortBlockLinesAreRefused, FewDigitsWereRefused};
+ghost use Rattle.csn_treetext.specs.Examples.{NothingIsADot, FewBitsAreANumber, NoBitsAreB, ManyBitsAreABlockLine};
+ghost use Rattle.csn_treetext.specs.Examples.{ManyBitsWereDigits, NoTreesAreBrackets, RowsHaveSpaces};
+ghost use Rattle.csn_treetext.specs.Examples.{GreatNumbersAreRefused, ShortBlockLinesAreRefused};
+ghost use Rattle.csn_treetext.specs.Examples.{FewDigitsWereRefused};
 
 /// The texts of a few trees.
 pub fn worked_examples()

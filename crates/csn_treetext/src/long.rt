@@ -205,7 +205,8 @@ fn bit_run(alloc: Global, text: &[u8], from: usize) -> Result<BitRun, NoMemory>
     requires { from ≤ length text.now }
     ensures comes { IfOk result (λ run. (stack : List Frame) → Comes First text.now from (state (Bare []) stack)
         → Comes First text.now run.end (state (Bare run.bits) stack)) }
-    ensures stops { IfOk result (λ run. (length run.bits ≡ MOST_BITS) ⊎ (run.end < length text.now → (slice_index text.now run.end < 48) ⊎ (49 < slice_index text.now run.end))) }
+    ensures stops { IfOk result (λ run. (length run.bits ≡ MOST_BITS)
+        ⊎ (run.end < length text.now → (slice_index text.now run.end < 48) ⊎ (49 < slice_index text.now run.end))) }
     ensures from { IfOk result (λ run. from ≤ run.end) }
     ensures within { IfOk result (λ run. run.end ≤ length text.now) }
 {

@@ -8,7 +8,10 @@ use Rattle.csn_grammar.specs.declared.exponent.Exponent.{Exponent}
 use Rattle.csn_grammar.specs.declared.exponent.Exponent.TheVariants as exponent
 use Rattle.csn_grammar.specs.declared.reader.progress.Terms.{Terms}
 use Rattle.csn_grammar.specs.declared.reader.progress.Progress.{Progress}
-use Rattle.csn_grammar.specs.declared.reader.progress.Progress.TheVariants.{Bracket, Star, StarBracket, Number, Summand, Factor, Before, Val, ValBracket, ValWords, Product, FactorBehind, SummandBehind, Whole}
+use Rattle.csn_grammar.specs.declared.reader.progress.Progress.TheVariants.{Bracket, Star, StarBracket, Number}
+use Rattle.csn_grammar.specs.declared.reader.progress.Progress.TheVariants.{Summand, Factor, Before, Val, ValBracket}
+use Rattle.csn_grammar.specs.declared.reader.progress.Progress.TheVariants.{ValWords, Product, FactorBehind}
+use Rattle.csn_grammar.specs.declared.reader.progress.Progress.TheVariants.{SummandBehind, Whole}
 use Rattle.csn_grammar.specs.declared.reader.progress.ExponentNext.{ExponentNext}
 use Rattle.csn_grammar.specs.declared.reader.progress.ExponentNext.TheVariants.{Goes, Ends}
 use Rattle.csn_grammar.specs.reader.Spellings.{is_text, number_of}

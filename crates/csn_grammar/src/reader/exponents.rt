@@ -3,7 +3,10 @@
 ghost use Rattle.std.specs.Prelude.{◌≡◌, ◌∷◌, ◌++◌};
 ghost use Rattle.csn_lexer.specs.declared.token.TokenKind.{TokenKind};
 ghost use Rattle.csn_grammar.specs.reader.Gives.{Gives};
-ghost use Rattle.csn_grammar.specs.reader.ExponentSteps.{linear, number_at, before_step, count_step, bracket_step, star_step, number_step, summand_step, factor_step, first_word_step, words_step, product_step, factor_behind_step, summand_behind_step, exponent_step};
+ghost use Rattle.csn_grammar.specs.reader.ExponentSteps.{linear, number_at, before_step, count_step, bracket_step};
+ghost use Rattle.csn_grammar.specs.reader.ExponentSteps.{star_step, number_step, summand_step, factor_step};
+ghost use Rattle.csn_grammar.specs.reader.ExponentSteps.{first_word_step, words_step, product_step};
+ghost use Rattle.csn_grammar.specs.reader.ExponentSteps.{factor_behind_step, summand_behind_step, exponent_step};
 
 use crate::exponent::Exponent;
 use crate::reader::piece::Piece;

@@ -1,5 +1,6 @@
 -- What the calls of a set of octet positions give, position by position.
-use Rattle.std.proofs.Common.{◌≡◌, ◌≢◌, ℕ, zero, suc, ◌+◌, ◌-◌, ◌*◌, ◌/◌, ◌%◌, ◌<◌, ◌≤◌, Bool, true, false, ◌&&◌, ◌||◌, ◌⊎◌, ◌↔◌, nat_eq, nat_le, refl, sym, ap, ◌∙◌, subst, arith, inl, inr}
+use Rattle.std.proofs.Common.{◌≡◌, ◌≢◌, ℕ, zero, suc, ◌+◌, ◌-◌, ◌*◌, ◌/◌, ◌%◌, ◌<◌, ◌≤◌, Bool, true, false, ◌&&◌}
+use Rattle.std.proofs.Common.{◌||◌, ◌⊎◌, ◌↔◌, nat_eq, nat_le, refl, sym, ap, ◌∙◌, subst, arith, inl, inr}
 use Rattle.std.specs.Prelude.{bit_or, ◌==◌, max, if◌then◌else◌}
 use Rattle.std.specs.Int.{bit_at}
 use Rattle.std.specs.Ordering.{nat_cmp}
@@ -68,7 +69,8 @@ marked_union a b =
     (λ q. contains-marked (bit_or a b) q
     ∙ ap (λ x. x == 1 && nat_le q 7) (bit_at_or a b q)
     ∙ either_bit (bit_at a q) (bit_at b q) (nat_le q 7) (bit_at-lt a q) (bit_at-lt b q)
-    ∙ sym (set.contains-union nat_cmp_total (marked a) (marked b) q ∙ ap (λ x. x || set.contains (marked b) q) (contains-marked a q) ∙ ap (λ x. (bit_at a q == 1 && nat_le q 7) || x) (contains-marked b q)))
+    ∙ sym (set.contains-union nat_cmp_total (marked a) (marked b) q ∙ ap (λ x. x || set.contains (marked b) q)
+    (contains-marked a q) ∙ ap (λ x. (bit_at a q == 1 && nat_le q 7) || x) (contains-marked b q)))
 
 -- ---- a set that a loop fills, position by position
 
@@ -154,7 +156,8 @@ plus_is a b s k swept end within o small = (
 )
 
 -- what is behind a set by numbers that lead back lies before it by those that led on
-pub before_is : (s lengths back t : set.FinSet nat_cmp) → OctetsAre back (λ o. Has lengths ((8 - o) % 8)) → OctetsAre t (IsSum s back) → OctetsAre t (Leads lengths s)
+pub before_is : (s lengths back t : set.FinSet nat_cmp) → OctetsAre back (λ o. Has lengths ((8 - o) % 8))
+    → OctetsAre t (IsSum s back) → OctetsAre t (Leads lengths s)
 before_is s lengths back t opposite behind o small = (
   (λ h.
       let sum = (behind o small).0 h in
@@ -250,7 +253,8 @@ numbers_are numbers o small = (
 )
 
 -- the sums of two sets of sums are the sums of both counts
-pub sums_of_sums : (numbers s t u : set.FinSet nat_cmp) (m k : ℕ) → OctetsAre s (SumOf numbers m) → OctetsAre t (SumOf numbers k) → OctetsAre u (IsSum s t) → OctetsAre u (SumOf numbers (m + k))
+pub sums_of_sums : (numbers s t u : set.FinSet nat_cmp) (m k : ℕ) → OctetsAre s (SumOf numbers m)
+    → OctetsAre t (SumOf numbers k) → OctetsAre u (IsSum s t) → OctetsAre u (SumOf numbers (m + k))
 sums_of_sums numbers s t u m k left right both o small = (
   (λ h.
       let p = (both o small).0 h in
@@ -275,7 +279,8 @@ halves done unit left half n e total = let seen : done + unit * (half + half) �
 odd_halves : (done unit left half n : ℕ) → left ≡ half + half + 1 → done + unit * left ≡ n → (done + unit) + (unit + unit) * half ≡ n
 odd_halves done unit left half n e total = let seen : done + unit * (half + half + 1) ≡ n = subst (λ l. done + unit * l ≡ n) e total in omega arith
 
-pub fold_even : (numbers sums each twice : set.FinSet nat_cmp) (n left : ℕ) → Folds numbers n left sums each → left % 2 ≢ 1 → OctetsAre twice (IsSum each each) → Folds numbers n (left / 2) sums twice
+pub fold_even : (numbers sums each twice : set.FinSet nat_cmp) (n left : ℕ) → Folds numbers n left sums each
+    → left % 2 ≢ 1 → OctetsAre twice (IsSum each each) → Folds numbers n (left / 2) sums twice
 fold_even numbers sums each twice n left f even both =
     let half : left ≡ left / 2 + left / 2 = omega arith in
     record {
@@ -286,7 +291,9 @@ fold_even numbers sums each twice n left f even both =
       total = halves f.done f.unit left (left / 2) n half f.total;
     }
 
-pub fold_odd : (numbers sums each more twice : set.FinSet nat_cmp) (n left : ℕ) → Folds numbers n left sums each → left % 2 ≡ 1 → OctetsAre more (IsSum sums each) → OctetsAre twice (IsSum each each) → Folds numbers n (left / 2) more twice
+pub fold_odd : (numbers sums each more twice : set.FinSet nat_cmp) (n left : ℕ) → Folds numbers n left sums each
+    → left % 2 ≡ 1 → OctetsAre more (IsSum sums each) → OctetsAre twice (IsSum each each)
+    → Folds numbers n (left / 2) more twice
 fold_odd numbers sums each more twice n left f odd one both =
     let half : left ≡ left / 2 + left / 2 + 1 = omega arith in
     record {
@@ -322,7 +329,8 @@ closing_none numbers s e =
       sound = λ sum small h. (0, (are sum small).0 h);
     }
 
-pub closing_more : (numbers sums plus more : set.FinSet nat_cmp) → Closing numbers sums → OctetsAre plus (IsSum sums numbers) → more ≡ set.union sums plus → Closing numbers more
+pub closing_more : (numbers sums plus more : set.FinSet nat_cmp)
+    → Closing numbers sums → OctetsAre plus (IsSum sums numbers) → more ≡ set.union sums plus → Closing numbers more
 closing_more numbers sums plus more closing sum_is e =
     record {
       begins = ap (λ u. set.contains u 0) e ∙ (has_union sums plus 0).1 (inl closing.begins);
@@ -338,7 +346,8 @@ closing_more numbers sums plus more closing sum_is e =
           ];
     }
 
-closed_sum : (numbers sums plus : set.FinSet nat_cmp) → Closing numbers sums → OctetsAre plus (IsSum sums numbers) → ((o : ℕ) → Has plus o → Has sums o) → {n r : ℕ} → SumOf numbers n r → Has sums r
+closed_sum : (numbers sums plus : set.FinSet nat_cmp) → Closing numbers sums → OctetsAre plus (IsSum sums numbers)
+    → ((o : ℕ) → Has plus o → Has sums o) → {n r : ℕ} → SumOf numbers n r → Has sums r
 closed_sum numbers sums plus closing sum_is closed {n} {r} (sum_none e f) = subst (λ k. Has sums k) (sym f) closing.begins
 closed_sum numbers sums plus closing sum_is closed {n} {r} (sum_next m a b e small has others is) =
     closed r ((sum_is r (omega arith)).1 (record {
@@ -351,7 +360,9 @@ closed_sum numbers sums plus closing sum_is closed {n} {r} (sum_next m a b e sma
       is = omega arith;
     }))
 
-pub closing_end : (numbers sums plus more : set.FinSet nat_cmp) → Closing numbers sums → OctetsAre plus (IsSum sums numbers) → more ≡ set.union sums plus → more ≡ sums → OctetsAre sums (AnySum numbers)
+pub closing_end : (numbers sums plus more : set.FinSet nat_cmp)
+    → Closing numbers sums → OctetsAre plus (IsSum sums numbers) → more ≡ set.union sums plus → more ≡ sums
+    → OctetsAre sums (AnySum numbers)
 closing_end numbers sums plus more closing sum_is e same o small = (
   closing.sound o small,
   (λ (n, h). closed_sum numbers sums plus closing sum_is (λ q new. ap (λ u. set.contains u q) (sym same ∙ e) ∙ (has_union sums plus q).1 (inr new)) h),
@@ -376,7 +387,8 @@ grown s t larger =
     let h = at 7 128 in
     omega arith
 
-pub closing_falls : (a b : ℕ) (s t plus : set.FinSet nat_cmp) → a < 256 → b < 256 → marked a ≡ s → marked b ≡ t → t ≡ set.union s plus → b ≢ a → 256 - marks_of t < 256 - marks_of s
+pub closing_falls : (a b : ℕ) (s t plus : set.FinSet nat_cmp) → a < 256 → b < 256 → marked a ≡ s → marked b ≡ t
+    → t ≡ set.union s plus → b ≢ a → 256 - marks_of t < 256 - marks_of s
 closing_falls a b s t plus a_small b_small a_is b_is e differ =
     let at_a : marks_of s ≡ a = ap marks_of (sym a_is) ∙ marks_of-marked a a_small in
     let at_b : marks_of t ≡ b = ap marks_of (sym b_is) ∙ marks_of-marked b b_small in

@@ -1,5 +1,6 @@
 -- The places of words.
-use Rattle.std.proofs.Common.{◌≡◌, ℕ, zero, suc, ◌+◌, ◌*◌, ◌/◌, ◌%◌, ◌^◌, ◌<◌, ◌≤◌, List, [], ◌∷◌, ◌++◌, length, take, refl, sym, ap, ◌∙◌, arith, length-append, inl, inr}
+use Rattle.std.proofs.Common.{◌≡◌, ℕ, zero, suc, ◌+◌, ◌*◌, ◌/◌, ◌%◌, ◌^◌, ◌<◌, ◌≤◌, List, [], ◌∷◌, ◌++◌, length, take}
+use Rattle.std.proofs.Common.{refl, sym, ap, ◌∙◌, arith, length-append, inl, inr}
 use Rattle.std.proofs.Math.Nat.{pow-suc, pow-le-pow_right}
 use Rattle.std.proofs.lemmas.Bool.{cases_order}
 use Rattle.std.proofs.lemmas.List.{length-take}
@@ -39,7 +40,8 @@ place_of-small a h = below (length a) h.short (place_of-most a h.bits)
 -- words with one place are one
 pub place_of-same : (a b : List ℕ) → IsBits a → IsBits b → place_of a ≡ place_of b → a ≡ b
 place_of-same a b h k e =
-    let lengths : length a ≡ length b = same_length (length a) (length b) (place_of a) (place_of-least a) (place_of-most a h) (rw e (place_of-least b)) (rw e (place_of-most b k)) in
+    let lengths : length a ≡ length b = same_length (length a) (length b) (place_of a) (place_of-least a)
+    (place_of-most a h) (rw e (place_of-least b)) (rw e (place_of-most b k)) in
     number_of-same a b h k lengths (rest (length a) (length b) lengths e)
   where
     rest : (m n : ℕ) → m ≡ n → 1 * 2 ^ m + number_of a ≡ 1 * 2 ^ n + number_of b → number_of a ≡ number_of b

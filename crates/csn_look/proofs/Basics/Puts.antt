@@ -1,5 +1,6 @@
 -- Lists in which something was put, and parted at a place.
-use Rattle.std.proofs.Common.{◌≡◌, ◌≢◌, ℕ, zero, suc, ◌<◌, ◌≤◌, List, [], ◌∷◌, ◌++◌, length, take, drop, refl, sym, ap, ◌∙◌, subst, arith, inl, inr, Some, get_or, get_or-set_same, get_or-set_other}
+use Rattle.std.proofs.Common.{◌≡◌, ◌≢◌, ℕ, zero, suc, ◌<◌, ◌≤◌, List, [], ◌∷◌, ◌++◌, length, take, drop, refl, sym}
+use Rattle.std.proofs.Common.{ap, ◌∙◌, subst, arith, inl, inr, Some, get_or, get_or-set_same, get_or-set_other}
 use Rattle.std.specs.Prelude.{slice_get}
 use Rattle.std.proofs.Math.ListN.{set as put, length-set}
 use Rattle.std.proofs.lemmas.Bool.{cases_order}
@@ -57,7 +58,8 @@ split_drop (x ∷ parts) zero p at = let same : x ≡ p = cc in ap (λ y. y ∷ 
 split_drop (x ∷ parts) (suc j) p at = ap (λ l. x ∷ l) (split_drop parts j p at)
 
 -- what is read of a list that is another one
-pub read_through : {A : Type 0} (items table : List A) (at : ℕ) (found : A) → items ≡ table → at < length table → found ≡ get_or items at found → slice_get table at ≡ Some found
+pub read_through : {A : Type 0} (items table : List A) (at : ℕ) (found : A) → items ≡ table → at < length table
+    → found ≡ get_or items at found → slice_get table at ≡ Some found
 read_through items table at found same inside is =
     let within : at < length items = omega (arith, ap length same, inside) in
     subst (λ l. slice_get l at ≡ Some found) same (slice_get_read items (length items) at found refl within is)

@@ -1,5 +1,7 @@
 -- Words of at most 12 bits, and the numbers that they are kept as.
-use Rattle.std.proofs.Common.{◌≡◌, ℕ, zero, suc, ◌+◌, ◌-◌, ◌*◌, ◌/◌, ◌%◌, ◌^◌, ◌<◌, ◌≤◌, Bool, true, false, nat_le, List, [], ◌∷◌, ◌++◌, length, get_or, refl, sym, ap, ◌∙◌, subst, arith, append_assoc, length-append}
+use Rattle.std.proofs.Common.{◌≡◌, ℕ, zero, suc, ◌+◌, ◌-◌, ◌*◌, ◌/◌, ◌%◌, ◌^◌, ◌<◌, ◌≤◌, Bool, true, false, nat_le}
+use Rattle.std.proofs.Common.{List, [], ◌∷◌, ◌++◌, length, get_or, refl, sym, ap, ◌∙◌, subst, arith, append_assoc}
+use Rattle.std.proofs.Common.{length-append}
 use Rattle.std.proofs.Math.Nat.{pow-suc, pow-le-pow_right}
 use Rattle.std.proofs.lemmas.Nat.{div-mul-add, or_shifted, pow_pos}
 use Rattle.std.specs.Int.Bits.{bit_or}
@@ -84,7 +86,8 @@ word_of-push place bit some small low =
     let bits : IsBits (word_of place ++ bit ∷ []) = IsBits-append (word_of place) (bit ∷ []) (word_of-bits place some (omega arith)) (low, tt) in
     place_of-same (word_of (2 * place + bit)) (word_of place ++ bit ∷ [])
     (word_of-bits (2 * place + bit) (omega arith) (omega arith)) bits
-    (word_of-place (2 * place + bit) (omega arith) (omega arith) ∙ sym (place_of-push (word_of place) bit ∙ ap (λ p. 2 * p + bit) (word_of-place place some (omega arith))))
+    (word_of-place (2 * place + bit) (omega arith) (omega arith)
+    ∙ sym (place_of-push (word_of place) bit ∙ ap (λ p. 2 * p + bit) (word_of-place place some (omega arith))))
 
 -- ---- the last bits of a number
 
@@ -153,6 +156,8 @@ word_size place some small =
     let zeros : 15 - size ≡ count_leading_zeros 16 place = leading_unique 16 place (15 - size) (suc size) (omega arith) most (omega arith) in
     omega arith
 
-pub word_bit : (place at behind : ℕ) → 0 < place → place < 8192 → at < length (word_of place) → behind ≡ length (word_of place) - 1 - at → place / 2 ^ behind % 2 ≡ get_or (word_of place) at 0
+pub word_bit : (place at behind : ℕ) → 0 < place → place < 8192 → at < length (word_of place)
+    → behind ≡ length (word_of place) - 1 - at → place / 2 ^ behind % 2 ≡ get_or (word_of place) at 0
 word_bit place at behind some small within far =
-    bit_of_place (word_of place) place (length (word_of place)) at (2 ^ behind) (word_of-bits place some small) (word_of-place place some small) refl within (ap (λ n. 2 ^ n) far)
+    bit_of_place (word_of place) place (length (word_of place)) at (2 ^ behind) (word_of-bits place some small)
+    (word_of-place place some small) refl within (ap (λ n. 2 ^ n) far)

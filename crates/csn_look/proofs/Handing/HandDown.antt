@@ -39,7 +39,9 @@ module _ {A : Type 0} (Right : ℕ → A → Type 0) (d : DescV) (is : IsDescrip
         parts = λ m n less. absurd (omega (arith, less));
       }
 
-  pub handed_more : (k : ℕ) (n : Node) (old new : List A) → slice_get d.nodes k ≡ Some n → length new ≡ length old → Handed Right d k old → ((j p : ℕ) → slice_get (parts_of n) j ≡ Some p → HasRight Right new p) → KeepsOthers n old new → Handed Right d (k + 1) new
+  pub handed_more : (k : ℕ) (n : Node) (old new : List A) → slice_get d.nodes k ≡ Some n → length new ≡ length old
+      → Handed Right d k old → ((j p : ℕ) → slice_get (parts_of n) j ≡ Some p → HasRight Right new p)
+      → KeepsOthers n old new → Handed Right d (k + 1) new
   handed_more k n old new at size h steps kept =
       let inside = slice_get_within d.nodes k n at in
       let s = span_inside d.nodes k is.numbered (omega arith) inside in

@@ -1,5 +1,6 @@
 -- Where nodes are reached, from where the nodes above them are.
-use Rattle.std.proofs.Common.{◌≡◌, ◌≢◌, ℕ, zero, suc, ◌+◌, ◌-◌, ◌<◌, ◌≤◌, ◌⊎◌, ◌↔◌, List, [], ◌∷◌, ◌++◌, length, take, drop, refl, sym, ap, ◌∙◌, subst, arith, inl, inr, Some, append-nil}
+use Rattle.std.proofs.Common.{◌≡◌, ◌≢◌, ℕ, zero, suc, ◌+◌, ◌-◌, ◌<◌, ◌≤◌, ◌⊎◌, ◌↔◌, List, [], ◌∷◌, ◌++◌, length, take}
+use Rattle.std.proofs.Common.{drop, refl, sym, ap, ◌∙◌, subst, arith, inl, inr, Some, append-nil}
 use Rattle.std.proofs.lemmas.List.{take_all}
 use Rattle.std.specs.Prelude.{slice_get}
 use Rattle.std.specs.Ordering.{nat_cmp}
@@ -18,8 +19,13 @@ use Rattle.csn_desc.proofs.Parents.{one_parent}
 use Rattle.csn_look.specs.Told.{OctetsAre}
 use Rattle.csn_look.specs.Sums.{Has, IsSum, SumOf, sum_none, sum_next}
 use Rattle.csn_look.specs.NodeSets.{LengthsAre}
-use Rattle.csn_look.specs.Ends.{InEnds, NodeEnds, PartsEnd, TimesEnd, ManyEnd, LeadEnd, ends_at, ends_lits, ends_spare, ends_null, ends_pad, ends_rest, ends_field, ends_window, ends_seq, ends_choice, ends_times, ends_counted, ends_many, ends_trunc, ends_named, parts_end, parts_next, times_end, times_next, many_end, many_next, lead_end, lead_next}
-use Rattle.csn_look.specs.Reached.{Reached, PartReached, reached_root, reached_part, reached_seq, reached_trunc, reached_choice, reached_window, reached_named, reached_times, reached_counted, reached_many}
+use Rattle.csn_look.specs.Ends.{InEnds, NodeEnds, PartsEnd, TimesEnd, ManyEnd, LeadEnd, ends_at, ends_lits}
+use Rattle.csn_look.specs.Ends.{ends_spare, ends_null, ends_pad, ends_rest, ends_field, ends_window, ends_seq}
+use Rattle.csn_look.specs.Ends.{ends_choice, ends_times, ends_counted, ends_many, ends_trunc, ends_named, parts_end}
+use Rattle.csn_look.specs.Ends.{parts_next, times_end, times_next, many_end, many_next, lead_end, lead_next}
+use Rattle.csn_look.specs.Reached.{Reached, PartReached, reached_root, reached_part, reached_seq, reached_trunc}
+use Rattle.csn_look.specs.Reached.{reached_choice, reached_window, reached_named, reached_times, reached_counted}
+use Rattle.csn_look.specs.Reached.{reached_many}
 use Rattle.csn_look.specs.ReachV.{HasAt}
 use Rattle.csn_look.specs.Steps.{IsStep, HasSteps, KeepsOthers, HasPartsOnce, HasPartsBelow, HandsTo}
 use Rattle.csn_look.proofs.Meaning.ReachFacts.{parts_end_more}
@@ -106,7 +112,9 @@ module _ (d : DescV) where
     (λ (begin, small, h, e). subst (λ q. Has from q) (sym (no_end e)) h),
   )
 
-  pub begins_next : (parts : List ℕ) (from here next lengths : set.FinSet nat_cmp) (j p : ℕ) → slice_get parts j ≡ Some p → OctetsAre here (BeginsAt parts from j) → LengthsAre lengths (InEnds d p) → OctetsAre next (IsSum here lengths) → OctetsAre next (BeginsAt parts from (j + 1))
+  pub begins_next : (parts : List ℕ) (from here next lengths : set.FinSet nat_cmp) (j p : ℕ)
+      → slice_get parts j ≡ Some p → OctetsAre here (BeginsAt parts from j) → LengthsAre lengths (InEnds d p)
+      → OctetsAre next (IsSum here lengths) → OctetsAre next (BeginsAt parts from (j + 1))
   begins_next parts from here next lengths j p at are ends sums o low =
       let behind : j + 1 ≡ suc j = omega arith in
       let longer : take (j + 1) parts ≡ take j parts ++ p ∷ [] = ap (λ n. take n parts) behind ∙ take_more parts j p at in (
@@ -144,7 +152,8 @@ module _ (d : DescV) where
     (λ t. (are o low).1 (t.begin, t.low, t.has_begin, seq_step t.step)),
   )
 
-  pub trunc_steps : (parts : List ℕ) (from : set.FinSet nat_cmp) (sets : List (set.FinSet nat_cmp)) → HasSteps d (Seq parts) from sets → HasSteps d (Trunc parts) from sets
+  pub trunc_steps : (parts : List ℕ) (from : set.FinSet nat_cmp) (sets : List (set.FinSet nat_cmp))
+      → HasSteps d (Seq parts) from sets → HasSteps d (Trunc parts) from sets
   trunc_steps parts from sets steps j p at =
       let h = steps j p at in (
         h.0,
@@ -183,7 +192,9 @@ module _ (d : DescV) where
   )
 
   -- a step by lengths, from each octet position of the set
-  pub by_lengths : (from lengths s : set.FinSet nat_cmp) (E : ℕ → ℕ → Type 0) → LengthsAre lengths E → OctetsAre s (IsSum from lengths) → OctetsAre s (λ o. (begin : ℕ) × (begin ≤ 7) × Has from begin × E begin o)
+  pub by_lengths : (from lengths s : set.FinSet nat_cmp) (E : ℕ → ℕ → Type 0)
+      → LengthsAre lengths E → OctetsAre s (IsSum from lengths)
+      → OctetsAre s (λ o. (begin : ℕ) × (begin ≤ 7) × Has from begin × E begin o)
   by_lengths from lengths s E are sums o low = (
     (λ h.
         let t = (sums o low).0 h in
@@ -193,7 +204,9 @@ module _ (d : DescV) where
         (sums o low).1 (record { a = begin; b = r.length; a_small = small; b_small = r.small; has_a = h; has_b = r.has_length; is = r.is })),
   )
 
-  pub at_times : (count : Count) (i : ℕ) (from lengths s : set.FinSet nat_cmp) → LengthsAre lengths (PartReached d (Times count i) [] i) → OctetsAre s (IsSum from lengths) → OctetsAre s (IsStep d (Times count i) from 0 i)
+  pub at_times : (count : Count) (i : ℕ) (from lengths s : set.FinSet nat_cmp)
+      → LengthsAre lengths (PartReached d (Times count i) [] i) → OctetsAre s (IsSum from lengths)
+      → OctetsAre s (IsStep d (Times count i) from 0 i)
   at_times count i from lengths s are sums o low =
       let b = by_lengths from lengths s (PartReached d (Times count i) [] i) are sums o low in (
         (λ h. let t = b.0 h in record { begin = t.0; low = t.1; has_begin = t.2; step = t.3 }),
@@ -203,7 +216,8 @@ module _ (d : DescV) where
   many_step : {i : ℕ} {before : List ℕ} {p from o : ℕ} → PartReached d (Many i) before p from o → ManyEnd d p from o
   many_step (reached_many h) = h
 
-  pub at_many : (i : ℕ) (from lengths s : set.FinSet nat_cmp) → LengthsAre lengths (ManyEnd d i) → OctetsAre s (IsSum from lengths) → OctetsAre s (IsStep d (Many i) from 0 i)
+  pub at_many : (i : ℕ) (from lengths s : set.FinSet nat_cmp) → LengthsAre lengths (ManyEnd d i)
+      → OctetsAre s (IsSum from lengths) → OctetsAre s (IsStep d (Many i) from 0 i)
   at_many i from lengths s are sums o low =
       let b = by_lengths from lengths s (ManyEnd d i) are sums o low in (
         (λ h. let t = b.0 h in record { begin = t.0; low = t.1; has_begin = t.2; step = reached_many t.3 }),
@@ -212,7 +226,9 @@ module _ (d : DescV) where
 
   -- ---- a part is reached by steps from where its node is
 
-  pub right_part : (k j p : ℕ) (n : Node) (from : set.FinSet nat_cmp) → IsDescription d → slice_get d.nodes k ≡ Some n → slice_get (parts_of n) j ≡ Some p → OctetsAre from (Reached d k) → (o : ℕ) → IsStep d n from j p o ↔ Reached d p o
+  pub right_part : (k j p : ℕ) (n : Node) (from : set.FinSet nat_cmp) → IsDescription d → slice_get d.nodes k ≡ Some n
+      → slice_get (parts_of n) j ≡ Some p → OctetsAre from (Reached d k) → (o : ℕ)
+      → IsStep d n from j p o ↔ Reached d p o
   right_part k j p n from is at get are o = (
     (λ t. let s = split_at (parts_of n) j p get in reached_part k t.begin n (take j (parts_of n)) s.after at s.is ((are t.begin t.low).0 t.has_begin) t.step),
     (λ r. back r),
@@ -225,11 +241,13 @@ module _ (d : DescV) where
           let low = part_from d.nodes j p (span_parts d.nodes at s.span) get in
           absurd (omega arith)
       back {o} (reached_part m begin q before after there split above step) =
-          let got : slice_get (parts_of q) (length before) ≡ Some p = subst (λ l. slice_get l (length before) ≡ Some p) (sym split) (middle_get before after p) in
+          let got : slice_get (parts_of q) (length before) ≡ Some p =
+          subst (λ l. slice_get l (length before) ≡ Some p) (sym split) (middle_get before after p) in
           let one = one_parent d m k (length before) j p q n is there at got get in
           let same : q ≡ n = cc (there, at, one.0) in
           let front : before ≡ take j (parts_of n) =
-          sym (middle_take before after p) ∙ ap (λ l. take (length before) l) (sym split) ∙ ap (λ i. take i (parts_of q)) one.1 ∙ ap (λ r. take j (parts_of r)) same in
+          sym (middle_take before after p) ∙ ap (λ l. take (length before) l) (sym split)
+          ∙ ap (λ i. take i (parts_of q)) one.1 ∙ ap (λ r. take j (parts_of r)) same in
           let low = reached_small above in
           record {
             begin = begin;
@@ -256,7 +274,12 @@ fewer {s} {t} {k} {r} e (sum_next m a b f small has others is) =
     let few = less.few in
     let b_small = sum_small others in
     elim ((has_insert s 0 a).0 (ap (λ u. set.contains u a) (sym e) ∙ has)) [
-      | inl none ↦ let same : b ≡ r = omega (arith, none) in record { count = less.count; few = omega arith; sum = subst (λ q. SumOf s less.count q) same less.sum }
+      | inl none ↦ let same : b ≡ r = omega (arith, none) in record {
+        count = less.count;
+        few = omega arith;
+        sum =
+            subst (λ q. SumOf s less.count q) same less.sum;
+      }
       | inr had ↦ record { count = suc less.count; few = omega arith; sum = sum_next less.count a b refl small had less.sum is }
     ]
 
@@ -271,7 +294,8 @@ module _ (d : DescV) where
   no_turn : {i o p : ℕ} {before : List ℕ} {n part : ℕ} → PartReached d (Times (Fixed n) part) before i o p → n ≡ 0 → ⊥
   no_turn (reached_times m less h) none = omega arith
 
-  pub before_none : (count : Count) (n i : ℕ) (s : set.FinSet nat_cmp) → count ≡ Fixed n → n ≡ 0 → s ≡ set.empty → LengthsAre s (PartReached d (Times count i) [] i)
+  pub before_none : (count : Count) (n i : ℕ) (s : set.FinSet nat_cmp) → count ≡ Fixed n → n ≡ 0 → s ≡ set.empty
+      → LengthsAre s (PartReached d (Times count i) [] i)
   before_none count n i s is none e =
       subst (λ c. LengthsAre s (PartReached d (Times c i) [] i)) (sym is)
       (λ o p low. ((λ h. absurd (has_none s h.length e h.has_length)), (λ h. absurd (no_turn h none))))
@@ -284,7 +308,9 @@ module _ (d : DescV) where
   turns : {i o p : ℕ} {before : List ℕ} {n part : ℕ} → PartReached d (Times (Fixed n) part) before i o p → Turns i n o p
   turns (reached_times m less h) = record { count = m; less = less; times = h }
 
-  pub before_fixed : (count : Count) (n i : ℕ) (once t s : set.FinSet nat_cmp) → count ≡ Fixed n → n ≢ 0 → LengthsAre once (InEnds d i) → t ≡ set.insert once 0 → OctetsAre s (SumOf t (n - 1)) → LengthsAre s (PartReached d (Times count i) [] i)
+  pub before_fixed : (count : Count) (n i : ℕ) (once t s : set.FinSet nat_cmp)
+      → count ≡ Fixed n → n ≢ 0 → LengthsAre once (InEnds d i) → t ≡ set.insert once 0 → OctetsAre s (SumOf t (n - 1))
+      → LengthsAre s (PartReached d (Times count i) [] i)
   before_fixed count n i once t s is some ends e sums =
       subst (λ c. LengthsAre s (PartReached d (Times c i) [] i)) (sym is)
       (λ o p low. (
@@ -303,7 +329,8 @@ module _ (d : DescV) where
   any_turn : {i o p : ℕ} {before : List ℕ} {m f c part : ℕ} → PartReached d (Times (Counted m f c) part) before i o p → ManyEnd d i o p
   any_turn (reached_counted h) = h
 
-  pub before_counted : (count : Count) (m f c i : ℕ) (s : set.FinSet nat_cmp) → count ≡ Counted m f c → LengthsAre s (ManyEnd d i) → LengthsAre s (PartReached d (Times count i) [] i)
+  pub before_counted : (count : Count) (m f c i : ℕ) (s : set.FinSet nat_cmp)
+      → count ≡ Counted m f c → LengthsAre s (ManyEnd d i) → LengthsAre s (PartReached d (Times count i) [] i)
   before_counted count m f c i s is are =
       subst (λ q. LengthsAre s (PartReached d (Times q i) [] i)) (sym is)
       (λ o p low. ((λ h. reached_counted ((are o p low).0 h)), (λ h. (are o p low).1 (any_turn h))))
@@ -314,7 +341,8 @@ module _ (d : DescV) where
 abbrev pub KeptBeside : {A : Type 0} → List ℕ → List A → List A → Type 0
 KeptBeside parts old new = (i : ℕ) → ((j : ℕ) → slice_get parts j ≡ Some i → ⊥) → slice_get new i ≡ slice_get old i
 
-pub kept_more : {A : Type 0} (parts : List ℕ) (old new : List A) (at p : ℕ) (s : A) → slice_get parts at ≡ Some p → KeptBeside parts old new → KeptBeside parts old (put new p s)
+pub kept_more : {A : Type 0} (parts : List ℕ) (old new : List A) (at p : ℕ) (s : A)
+    → slice_get parts at ≡ Some p → KeptBeside parts old new → KeptBeside parts old (put new p s)
 kept_more parts old new at p s get kept i beside =
     let differ : i ≢ p = λ same. beside at (get ∙ ap (λ x. Some x) (sym same)) in
     get_put_other new p i s differ ∙ kept i beside
@@ -323,7 +351,9 @@ kept_more parts old new at p s get kept i beside =
 abbrev pub PutSoFar : List ℕ → ℕ → List (set.FinSet nat_cmp) → (ℕ → ℕ → Type 0) → Type 0
 PutSoFar parts k sets P = (j p : ℕ) → j < k → slice_get parts j ≡ Some p → HasAt sets p (P j)
 
-pub put_more : (parts : List ℕ) (k p : ℕ) (sets : List (set.FinSet nat_cmp)) (s : set.FinSet nat_cmp) (P : ℕ → ℕ → Type 0) → HasPartsOnce (Seq parts) → slice_get parts k ≡ Some p → p < length sets → OctetsAre s (P k) → PutSoFar parts k sets P → PutSoFar parts (k + 1) (put sets p s) P
+pub put_more : (parts : List ℕ) (k p : ℕ) (sets : List (set.FinSet nat_cmp)) (s : set.FinSet nat_cmp)
+    (P : ℕ → ℕ → Type 0) → HasPartsOnce (Seq parts) → slice_get parts k ≡ Some p → p < length sets → OctetsAre s (P k)
+    → PutSoFar parts k sets P → PutSoFar parts (k + 1) (put sets p s) P
 put_more parts k p sets s P once get inside are so_far j q less at =
     elim (cases_order j k) [
       | inl same ↦
@@ -346,11 +376,15 @@ put_more parts k p sets s P once get inside are so_far j q less at =
 pub put_none : (parts : List ℕ) (sets : List (set.FinSet nat_cmp)) (P : ℕ → ℕ → Type 0) → PutSoFar parts 0 sets P
 put_none parts sets P j p less at = absurd (omega (arith, less))
 
-pub put_all : (parts : List ℕ) (k : ℕ) (sets : List (set.FinSet nat_cmp)) (P : ℕ → ℕ → Type 0) → length parts ≤ k → PutSoFar parts k sets P → (j p : ℕ) → slice_get parts j ≡ Some p → HasAt sets p (P j)
+pub put_all : (parts : List ℕ) (k : ℕ) (sets : List (set.FinSet nat_cmp)) (P : ℕ → ℕ → Type 0)
+    → length parts ≤ k → PutSoFar parts k sets P → (j p : ℕ) → slice_get parts j ≡ Some p → HasAt sets p (P j)
 put_all parts k sets P all so_far j p at = let inside = slice_get_within parts j p at in so_far j p (omega arith) at
 
 -- parts that all have one set, which may stand twice among them
-pub same_more : {A : Type 0} (parts : List ℕ) (k p : ℕ) (sets : List A) (s : A) → slice_get parts k ≡ Some p → p < length sets → ((j q : ℕ) → j < k → slice_get parts j ≡ Some q → slice_get sets q ≡ Some s) → (j q : ℕ) → j < k + 1 → slice_get parts j ≡ Some q → slice_get (put sets p s) q ≡ Some s
+pub same_more : {A : Type 0} (parts : List ℕ) (k p : ℕ) (sets : List A) (s : A)
+    → slice_get parts k ≡ Some p → p < length sets
+    → ((j q : ℕ) → j < k → slice_get parts j ≡ Some q → slice_get sets q ≡ Some s) → (j q : ℕ)
+    → j < k + 1 → slice_get parts j ≡ Some q → slice_get (put sets p s) q ≡ Some s
 same_more parts k p sets s get inside so_far j q less at =
     elim (cases_order q p) [
       | inl same ↦ subst (λ n. slice_get (put sets p s) n ≡ Some s) (sym same) (get_put_same sets p s inside)
@@ -374,7 +408,9 @@ single part zero p at = let same : part ≡ p = cc in (refl, sym same)
 single part (suc j) p at = cc
 
 module _ (d : DescV) where
-  pub single_steps : (n m : Node) (from s : set.FinSet nat_cmp) (part : ℕ) (sets : List (set.FinSet nat_cmp)) → n ≡ m → parts_of m ≡ part ∷ [] → part < length sets → OctetsAre s (IsStep d m from 0 part) → HasSteps d n from (put sets part s)
+  pub single_steps : (n m : Node) (from s : set.FinSet nat_cmp) (part : ℕ) (sets : List (set.FinSet nat_cmp))
+      → n ≡ m → parts_of m ≡ part ∷ [] → part < length sets → OctetsAre s (IsStep d m from 0 part)
+      → HasSteps d n from (put sets part s)
   single_steps n m from s part sets is parts inside are =
       subst (λ q. HasSteps d q from (put sets part s)) (sym is)
       (λ j p at.
@@ -420,7 +456,9 @@ root_right d s is e o low = (
   (λ r. ap (λ u. set.contains u o) e ∙ (has_insert set.empty 0 o).1 (inl (root_only d is r refl))),
 )
 
-pub parts_right : (d : DescV) (k : ℕ) (n : Node) (from : set.FinSet nat_cmp) (sets : List (set.FinSet nat_cmp)) → IsDescription d → slice_get d.nodes k ≡ Some n → OctetsAre from (Reached d k) → HasSteps d n from sets → (j p : ℕ) → slice_get (parts_of n) j ≡ Some p → HasAt sets p (Reached d p)
+pub parts_right : (d : DescV) (k : ℕ) (n : Node) (from : set.FinSet nat_cmp) (sets : List (set.FinSet nat_cmp))
+    → IsDescription d → slice_get d.nodes k ≡ Some n → OctetsAre from (Reached d k)
+    → HasSteps d n from sets → (j p : ℕ) → slice_get (parts_of n) j ≡ Some p → HasAt sets p (Reached d p)
 parts_right d k n from sets is at right steps j p get =
     let h = steps j p get in (
       h.0,
@@ -458,7 +496,8 @@ in_sequence n parts {nodes = nodes} {sets = sets} is h =
     subst (λ l. HandsTo (Seq l) nodes sets) is (record { once = h.once; below = h.below; known = h.known })
 
 -- a vector after its slice was written
-pub written_back : {A : Type 0} (new items : List A) (len : ℕ) → length new ≡ length items → len ≡ length items → take len (new ++ drop (length new) items) ≡ new
+pub written_back : {A : Type 0} (new items : List A) (len : ℕ) → length new ≡ length items → len ≡ length items
+    → take len (new ++ drop (length new) items) ≡ new
 written_back new items len same size =
     ap (λ l. take len (new ++ l)) (drop_of_length-le items (omega arith))
     ∙ ap (λ l. take len l) (append-nil new)

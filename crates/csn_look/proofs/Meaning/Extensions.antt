@@ -22,14 +22,16 @@ pub gains_key :
     → Gains old new (λ key mark. (key ≡ word) × (mark ≡ whole))
 gains_key old new word whole is set = record {
   keys = λ key mark word_k. (
-    λ h. elim (or_cases (nat_eq (key_mark (place_of key) mark) (key_mark (place_of word) whole)) (has_key old key mark) (sym (set (key_mark (place_of key) mark)) ∙ h)) [
-      | inl e ↦ inr (key_mark-same key word mark whole word_k is (eqb-true (key_mark (place_of key) mark) (key_mark (place_of word) whole) e))
-      | inr e ↦ inl e
-    ],
+    λ h. elim (or_cases (nat_eq (key_mark (place_of key) mark) (key_mark (place_of word) whole))
+        (has_key old key mark) (sym (set (key_mark (place_of key) mark)) ∙ h)) [
+          | inl e ↦ inr (key_mark-same key word mark whole word_k is (eqb-true (key_mark (place_of key) mark) (key_mark (place_of word) whole) e))
+          | inr e ↦ inl e
+        ],
     λ h. set (key_mark (place_of key) mark) ∙ elim h [
       | inl e ↦ or_right (nat_eq (key_mark (place_of key) mark) (key_mark (place_of word) whole)) (has_key old key mark) e
       | inr e ↦ or_left (nat_eq (key_mark (place_of key) mark) (key_mark (place_of word) whole)) (has_key old key mark)
-          (eq-eqb (key_mark (place_of key) mark) (key_mark (place_of word) whole) (ap (λ k. key_mark (place_of k) mark) e.0 ∙ ap (λ m. key_mark (place_of word) m) e.1))
+          (eq-eqb (key_mark (place_of key) mark) (key_mark (place_of word) whole)
+          (ap (λ k. key_mark (place_of k) mark) e.0 ∙ ap (λ m. key_mark (place_of word) m) e.1))
     ],
   );
   starts = λ at high. set at ∙ ap (λ b. b || is_marked old at) (apart at (key_mark (place_of word) whole) (omega (arith, key_mark-low word whole is)));

@@ -1,5 +1,7 @@
 -- Bits that have a tree begin with a key of the node, and are that key where it is whole.
-use Rattle.std.proofs.Common.{◌≡◌, ℕ, suc, ◌+◌, ◌*◌, ◌%◌, Bool, true, false, List, [], ◌∷◌, ◌++◌, length, take, drop, take-append-drop, refl, sym, ◌∙◌, ap, subst, arith, append_assoc, append-nil, inl, inr, Some}
+use Rattle.std.proofs.Common.{◌≡◌, ℕ, suc, ◌+◌, ◌*◌, ◌%◌, Bool, true, false, List, [], ◌∷◌, ◌++◌, length, take, drop}
+use Rattle.std.proofs.Common.{take-append-drop, refl, sym, ◌∙◌, ap, subst, arith, append_assoc, append-nil, inl, inr}
+use Rattle.std.proofs.Common.{Some}
 use Rattle.std.proofs.lemmas.Bool.Decides.{leb_tells}
 use Rattle.csn_bits.specs.Octets.{IsBits}
 use Rattle.csn_desc.specs.declared.reading.Reading.{Reading}
@@ -13,8 +15,15 @@ use Rattle.csn_desc.specs.TreeV.{TreeV, Trees}
 use Rattle.csn_desc.specs.Nodes.{DescV}
 use Rattle.csn_desc.specs.Spelled.{symbol_bit, spelled, IsSpare}
 use Rattle.csn_desc.specs.Values.{Values, count_of}
-use Rattle.csn_desc.specs.Means.{NMeans, NodeMeans, PartsMean, TimesMean, means_at, means_lits, means_spare, means_pad, means_null, means_field, means_rest, means_seq, means_choice, means_times, means_many, means_cut, means_trunc, means_window, means_named, parts_end, parts_next, times_end, times_next}
-use Rattle.csn_look.specs.Keys.{Cut, kept, cut, InKeys, NodeKeys, PartsKeys, TimesKeys, keys_at, keys_lits, keys_spare, keys_field, keys_pad, keys_null, keys_rest, keys_many, keys_trunc, keys_window, keys_counted_field, keys_counted_times, keys_seq, keys_times, keys_choice, keys_named, parts_none, parts_cut, parts_whole, times_none, times_cut, times_whole}
+use Rattle.csn_desc.specs.Means.{NMeans, NodeMeans, PartsMean, TimesMean, means_at, means_lits, means_spare}
+use Rattle.csn_desc.specs.Means.{means_pad, means_null, means_field, means_rest, means_seq, means_choice, means_times}
+use Rattle.csn_desc.specs.Means.{means_many, means_cut, means_trunc, means_window, means_named, parts_end, parts_next}
+use Rattle.csn_desc.specs.Means.{times_end, times_next}
+use Rattle.csn_look.specs.Keys.{Cut, kept, cut, InKeys, NodeKeys, PartsKeys, TimesKeys, keys_at, keys_lits}
+use Rattle.csn_look.specs.Keys.{keys_spare, keys_field, keys_pad, keys_null, keys_rest, keys_many, keys_trunc}
+use Rattle.csn_look.specs.Keys.{keys_window, keys_counted_field, keys_counted_times, keys_seq, keys_times}
+use Rattle.csn_look.specs.Keys.{keys_choice, keys_named, parts_none, parts_cut, parts_whole, times_none, times_cut}
+use Rattle.csn_look.specs.Keys.{times_whole}
 use Rattle.csn_look.specs.Beginnings.{Begun}
 use Rattle.csn_look.proofs.Meaning.StartFacts.{symbol_bit-octet, first_spare}
 
@@ -33,7 +42,9 @@ one_spare reading s o (a ∷ []) one h = first_spare reading s o a [] (a ∷ [])
 one_spare reading s o (a ∷ (x ∷ b)) one h = absurd (omega arith)
 
 -- what is cut of a word that the bits begin with
-shorter : (most : ℕ) (w : List ℕ) (whole : Bool) (P : List ℕ → Bool → Type 0) (rest : List ℕ) {b : List ℕ} → b ≡ w ++ rest → (whole ≡ true → rest ≡ []) → ((x : List ℕ) (mark : Bool) → Cut most w whole x mark → P x mark) → Begun P b
+shorter : (most : ℕ) (w : List ℕ) (whole : Bool) (P : List ℕ → Bool → Type 0) (rest : List ℕ) {b : List ℕ}
+    → b ≡ w ++ rest → (whole ≡ true → rest ≡ []) → ((x : List ℕ) (mark : Bool) → Cut most w whole x mark → P x mark)
+    → Begun P b
 shorter most w whole P rest {b = b} is none make =
     elim (leb_tells (length w) most) [
       | inl short ↦ record { word = w; mark = whole; rest = rest; key = make w whole (kept short.1 refl refl); begins = is; whole = none }
@@ -60,7 +71,8 @@ pub as_key : {P Q : List ℕ → Bool → Type 0} {b : List ℕ} → ((x : List 
 as_key make h = record { word = h.word; mark = h.mark; rest = h.rest; key = make h.word h.mark h.key; begins = h.begins; whole = h.whole }
 
 -- all of the bits as a word
-all_of : (most : ℕ) (w : List ℕ) (P : List ℕ → Bool → Type 0) {b : List ℕ} → b ≡ w → ((x : List ℕ) (mark : Bool) → Cut most w true x mark → P x mark) → Begun P b
+all_of : (most : ℕ) (w : List ℕ) (P : List ℕ → Bool → Type 0) {b : List ℕ}
+    → b ≡ w → ((x : List ℕ) (mark : Bool) → Cut most w true x mark → P x mark) → Begun P b
 all_of most w P is make = shorter most w true P [] (is ∙ sym (append-nil w)) (λ yes. refl) make
 
 module _ (d : DescV) (most : ℕ) where
@@ -69,13 +81,15 @@ module _ (d : DescV) (most : ℕ) where
       let place : (o + length b1) % 8 ≡ (o % 8 + length w) % 8 = let size = ap length same in omega arith in
       subst P place h
 
-  field_key : (unit : ℕ) (count : Count) (v : Values) {n : ℕ} (o : ℕ) (b : List ℕ) → count_of v count ≡ Some n → length b ≡ unit * n → IsBits b → Begun (NodeKeys d most (Field unit count) o) b
+  field_key : (unit : ℕ) (count : Count) (v : Values) {n : ℕ} (o : ℕ) (b : List ℕ)
+      → count_of v count ≡ Some n → length b ≡ unit * n → IsBits b → Begun (NodeKeys d most (Field unit count) o) b
   field_key unit (Fixed k) v o b counts wide are =
       let same : k ≡ _ = cc in
       all_of most b (NodeKeys d most (Field unit (Fixed k)) o) refl (λ x mark c. keys_field b (wide ∙ ap (λ n. unit * n) (sym same)) are c)
   field_key unit (Counted m field c) v o b counts wide are = unread b (keys_counted_field refl refl)
 
-  times_key : (count : Count) (v : Values) {n i : ℕ} (o : ℕ) (b : List ℕ) → count_of v count ≡ Some n → Begun (TimesKeys d most n i o) b → Begun (NodeKeys d most (Times count i) o) b
+  times_key : (count : Count) (v : Values) {n i : ℕ} (o : ℕ) (b : List ℕ)
+      → count_of v count ≡ Some n → Begun (TimesKeys d most n i o) b → Begun (NodeKeys d most (Times count i) o) b
   times_key (Fixed k) v {i = i} o b counts h =
       let same : k ≡ _ = cc in
       let P : ℕ → Type 0 = λ n. Begun (TimesKeys d most n i o) b in
@@ -89,7 +103,9 @@ module _ (d : DescV) (most : ℕ) where
   pub whole_word : {P : List ℕ → Bool → Type 0} {b : List ℕ} (h : Begun P b) → h.mark ≡ true → b ≡ h.word
   whole_word h all = h.begins ∙ ap (λ l. h.word ++ l) (h.whole all) ∙ append-nil h.word
 
-  pub cut_first : {i o : ℕ} {Q : List ℕ → Bool → Type 0} {b1 b : List ℕ} → ((x : List ℕ) → InKeys d most i o x false → Q x false) → (b2 : List ℕ) → b ≡ b1 ++ b2 → (h : Begun (InKeys d most i o) b1) → h.mark ≡ false → Begun Q b
+  pub cut_first : {i o : ℕ} {Q : List ℕ → Bool → Type 0} {b1 b : List ℕ}
+      → ((x : List ℕ) → InKeys d most i o x false → Q x false) → (b2 : List ℕ)
+      → b ≡ b1 ++ b2 → (h : Begun (InKeys d most i o) b1) → h.mark ≡ false → Begun Q b
   cut_first make b2 is h cuts =
       record {
         word = h.word;
@@ -100,7 +116,10 @@ module _ (d : DescV) (most : ℕ) where
         whole = λ yes. absurd (cc);
       }
 
-  pub both_words : (o : ℕ) (P : ℕ → List ℕ → Bool → Type 0) (Q : List ℕ → Bool → Type 0) (b1 b2 : List ℕ) {b : List ℕ} → b ≡ b1 ++ b2 → (w1 : List ℕ) → b1 ≡ w1 → Begun (P ((o + length b1) % 8)) b2 → ((w2 : List ℕ) (rest : Bool) (x : List ℕ) (mark : Bool) → P ((o % 8 + length w1) % 8) w2 rest → Cut most (w1 ++ w2) rest x mark → Q x mark) → Begun Q b
+  pub both_words : (o : ℕ) (P : ℕ → List ℕ → Bool → Type 0) (Q : List ℕ → Bool → Type 0) (b1 b2 : List ℕ) {b : List ℕ}
+      → b ≡ b1 ++ b2 → (w1 : List ℕ) → b1 ≡ w1 → Begun (P ((o + length b1) % 8)) b2
+      → ((w2 : List ℕ) (rest : Bool) (x : List ℕ) (mark : Bool) → P ((o % 8 + length w1) % 8) w2 rest → Cut most
+      (w1 ++ w2) rest x mark → Q x mark) → Begun Q b
   both_words o P Q b1 b2 is w1 agree h make =
       let here = octet_word o agree (λ p. P p h.word h.mark) h.key in
       shorter most (w1 ++ h.word) h.mark Q h.rest
@@ -108,7 +127,9 @@ module _ (d : DescV) (most : ℕ) where
       h.whole (λ x mark c. make h.word h.mark x mark here c)
 
   -- the first of some parts, and the others: cut in the first, or both
-  pub first_part : (i : ℕ) (parts : List ℕ) (o : ℕ) (b1 b2 : List ℕ) {b : List ℕ} → b ≡ b1 ++ b2 → Begun (InKeys d most i (o % 8)) b1 → Begun (PartsKeys d most parts ((o + length b1) % 8)) b2 → Begun (PartsKeys d most (i ∷ parts) (o % 8)) b
+  pub first_part : (i : ℕ) (parts : List ℕ) (o : ℕ) (b1 b2 : List ℕ) {b : List ℕ}
+      → b ≡ b1 ++ b2 → Begun (InKeys d most i (o % 8)) b1 → Begun (PartsKeys d most parts ((o + length b1) % 8)) b2
+      → Begun (PartsKeys d most (i ∷ parts) (o % 8)) b
   first_part i parts o b1 b2 {b = b} is h others = by_mark h.mark refl
     where
       by_mark : (mark : Bool) → h.mark ≡ mark → Begun (PartsKeys d most (i ∷ parts) (o % 8)) b
@@ -118,7 +139,9 @@ module _ (d : DescV) (most : ℕ) where
           both_words o (λ p x mark. PartsKeys d most parts p x mark) (λ x mark. PartsKeys d most (i ∷ parts) (o % 8) x mark) b1 b2 is h.word agree others
           (λ w2 rest x mark key c. parts_whole h.word w2 rest (marked_key h all) key c)
 
-  pub first_time : (n i o m : ℕ) → n ≡ suc m → (b1 b2 : List ℕ) {b : List ℕ} → b ≡ b1 ++ b2 → Begun (InKeys d most i (o % 8)) b1 → Begun (TimesKeys d most m i ((o + length b1) % 8)) b2 → Begun (TimesKeys d most n i (o % 8)) b
+  pub first_time : (n i o m : ℕ) → n ≡ suc m → (b1 b2 : List ℕ) {b : List ℕ}
+      → b ≡ b1 ++ b2 → Begun (InKeys d most i (o % 8)) b1 → Begun (TimesKeys d most m i ((o + length b1) % 8)) b2
+      → Begun (TimesKeys d most n i (o % 8)) b
   first_time n i o m over b1 b2 {b = b} is h others = by_mark h.mark refl
     where
       by_mark : (mark : Bool) → h.mark ≡ mark → Begun (TimesKeys d most n i (o % 8)) b
@@ -139,7 +162,8 @@ module _ (d : DescV) (most : ℕ) where
         all_of most b (NodeKeys d most n (o % 8)) refl (λ x mark c. keys_spare b one (one_spare d.reading s o b one h) c)
     node_keys {b = []} (means_pad some h) = absurd (omega arith)
     node_keys {n = n} {o = o} {b = a ∷ r} (means_pad some h) =
-        shorter most (a ∷ []) false (NodeKeys d most n (o % 8)) r refl (λ yes. absurd (cc)) (λ x mark c. keys_pad (a ∷ []) refl (first_spare d.reading Low o a r (a ∷ r) refl h) c)
+        shorter most (a ∷ []) false (NodeKeys d most n (o % 8)) r refl (λ yes. absurd (cc))
+        (λ x mark c. keys_pad (a ∷ []) refl (first_spare d.reading Low o a r (a ∷ r) refl h) c)
     node_keys (means_null h) = no_bits h (keys_null refl refl)
     node_keys {o = o} {v = v} {b = b} (means_field {unit = unit} {count = count} n counts wide h) = field_key unit count v (o % 8) b counts wide h
     node_keys {b = b} (means_rest h) = unread b (keys_rest refl refl)

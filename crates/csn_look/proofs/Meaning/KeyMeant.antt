@@ -1,6 +1,7 @@
 -- Keys are keys of something: a whole one is bits that have a tree, whatever values are seen; the first bit of
 -- one is a bit that the node may begin with; and each one is followed.
-use Rattle.std.proofs.Common.{◌≡◌, ℕ, suc, ◌+◌, ◌%◌, Bool, true, List, [], ◌∷◌, ◌++◌, length, drop, take-append-drop, refl, sym, ◌∙◌, ap, subst, arith, append-nil}
+use Rattle.std.proofs.Common.{◌≡◌, ℕ, suc, ◌+◌, ◌%◌, Bool, true, List, [], ◌∷◌, ◌++◌, length, drop, take-append-drop}
+use Rattle.std.proofs.Common.{refl, sym, ◌∙◌, ap, subst, arith, append-nil}
 use Rattle.csn_bits.specs.Octets.{IsBits}
 use Rattle.csn_desc.specs.declared.reading.Reading.{Reading}
 use Rattle.csn_desc.specs.declared.reading.Reading.TheVariants.{Received, Sent}
@@ -11,9 +12,17 @@ use Rattle.csn_desc.specs.TreeV.{TreeV, empty, bits, row, alt, named, Trees, non
 use Rattle.csn_desc.specs.Nodes.{DescV}
 use Rattle.csn_desc.specs.Spelled.{symbol_bit, spelled, IsSpare}
 use Rattle.csn_desc.specs.Values.{Values, with_value}
-use Rattle.csn_desc.specs.Means.{NMeans, NodeMeans, PartsMean, TimesMean, means_at, means_lits, means_spare, means_null, means_field, means_seq, means_choice, means_times, means_named, parts_end, parts_next, times_end, times_next}
-use Rattle.csn_look.specs.Starts.{InStart, NodeStarts, PartsStart, starts_at, starts_lits, starts_spare, starts_pad, starts_field, starts_seq, starts_choice, starts_times, starts_named, starts_here, starts_later}
-use Rattle.csn_look.specs.Keys.{Cut, kept, cut, InKeys, NodeKeys, PartsKeys, TimesKeys, keys_at, keys_lits, keys_spare, keys_field, keys_pad, keys_null, keys_rest, keys_many, keys_trunc, keys_window, keys_counted_field, keys_counted_times, keys_seq, keys_times, keys_choice, keys_named, parts_none, parts_cut, parts_whole, times_none, times_cut, times_whole}
+use Rattle.csn_desc.specs.Means.{NMeans, NodeMeans, PartsMean, TimesMean, means_at, means_lits, means_spare}
+use Rattle.csn_desc.specs.Means.{means_null, means_field, means_seq, means_choice, means_times, means_named}
+use Rattle.csn_desc.specs.Means.{parts_end, parts_next, times_end, times_next}
+use Rattle.csn_look.specs.Starts.{InStart, NodeStarts, PartsStart, starts_at, starts_lits, starts_spare, starts_pad}
+use Rattle.csn_look.specs.Starts.{starts_field, starts_seq, starts_choice, starts_times, starts_named, starts_here}
+use Rattle.csn_look.specs.Starts.{starts_later}
+use Rattle.csn_look.specs.Keys.{Cut, kept, cut, InKeys, NodeKeys, PartsKeys, TimesKeys, keys_at, keys_lits}
+use Rattle.csn_look.specs.Keys.{keys_spare, keys_field, keys_pad, keys_null, keys_rest, keys_many, keys_trunc}
+use Rattle.csn_look.specs.Keys.{keys_window, keys_counted_field, keys_counted_times, keys_seq, keys_times}
+use Rattle.csn_look.specs.Keys.{keys_choice, keys_named, parts_none, parts_cut, parts_whole, times_none, times_cut}
+use Rattle.csn_look.specs.Keys.{times_whole}
 use Rattle.csn_look.proofs.Meaning.ShapeFacts.{Shaped}
 use Rattle.csn_look.proofs.Meaning.NullableFacts.{nullable}
 use Rattle.csn_look.proofs.Meaning.EndsFacts.{ends}
@@ -50,10 +59,12 @@ octet_again o p is = omega arith
 module _ (d : DescV) (most : ℕ) where
   mutual
     -- a whole key is bits that have a tree
-    pub key_meant : {i : ℕ} {w : List ℕ} {mark : Bool} (o p : ℕ) (v : Values) → p ≡ o % 8 → mark ≡ true → InKeys d most i p w mark → (t : TreeV) × NMeans d i o v w t
+    pub key_meant : {i : ℕ} {w : List ℕ} {mark : Bool} (o p : ℕ) (v : Values)
+        → p ≡ o % 8 → mark ≡ true → InKeys d most i p w mark → (t : TreeV) × NMeans d i o v w t
     key_meant o p v oct full (keys_at n at h) = let m = node_key_meant o p v oct full h in (m.0, means_at n at m.1)
 
-    node_key_meant : {n : Node} {w : List ℕ} {mark : Bool} (o p : ℕ) (v : Values) → p ≡ o % 8 → mark ≡ true → NodeKeys d most n p w mark → (t : TreeV) × NodeMeans d n o v w t
+    node_key_meant : {n : Node} {w : List ℕ} {mark : Bool} (o p : ℕ) (v : Values)
+        → p ≡ o % 8 → mark ≡ true → NodeKeys d most n p w mark → (t : TreeV) × NodeMeans d n o v w t
     node_key_meant o p v oct full (keys_lits {run = run} c) = (empty, means_lits ((all_left full c).word ∙ spelled-octet run p o (octet_again o p oct)))
     node_key_meant {w = x} o p v oct full (keys_spare {s = s} w one spare c) =
         let left = all_left full c in
@@ -76,7 +87,8 @@ module _ (d : DescV) (most : ℕ) where
     node_key_meant o p v oct full (keys_choice j at h) = let m = key_meant o p v oct full h in (alt j m.0, means_choice at m.1)
     node_key_meant o p v oct full (keys_named {label = label} h) = let m = key_meant o p v oct full h in (named label m.0, means_named m.1)
 
-    parts_key_meant : {parts : List ℕ} {w : List ℕ} {mark : Bool} (o p : ℕ) (v : Values) → p ≡ o % 8 → mark ≡ true → PartsKeys d most parts p w mark → (ts : Trees) × PartsMean d parts o v w ts
+    parts_key_meant : {parts : List ℕ} {w : List ℕ} {mark : Bool} (o p : ℕ) (v : Values)
+        → p ≡ o % 8 → mark ≡ true → PartsKeys d most parts p w mark → (ts : Trees) × PartsMean d parts o v w ts
     parts_key_meant o p v oct full (parts_none is mark) = (none, parts_end is)
     parts_key_meant o p v oct full (parts_cut h mark) = absurd (cc)
     parts_key_meant o p v oct full (parts_whole {i = i} w1 w2 rest h hs c) =
@@ -85,7 +97,8 @@ module _ (d : DescV) (most : ℕ) where
         let others = parts_key_meant (o + length w1) ((p + length w1) % 8) (with_value d.nodes i w1 v) (octet_next o p (length w1) oct) left.mark hs in
         (more first.0 others.0, parts_next w1 w2 left.word first.1 others.1)
 
-    times_key_meant : {n i : ℕ} {w : List ℕ} {mark : Bool} (o p : ℕ) (v : Values) → p ≡ o % 8 → mark ≡ true → TimesKeys d most n i p w mark → (ts : Trees) × TimesMean d n i o v w ts
+    times_key_meant : {n i : ℕ} {w : List ℕ} {mark : Bool} (o p : ℕ) (v : Values)
+        → p ≡ o % 8 → mark ≡ true → TimesKeys d most n i p w mark → (ts : Trees) × TimesMean d n i o v w ts
     times_key_meant o p v oct full (times_none over is mark) = (none, times_end over is)
     times_key_meant o p v oct full (times_cut m over h mark) = absurd (cc)
     times_key_meant o p v oct full (times_whole m over w1 w2 rest h hs c) =
@@ -100,7 +113,8 @@ first_of : {most : ℕ} {w x : List ℕ} {whole mark : Bool} (a : ℕ) (r : List
 first_of {x = x} a r is c = let tail = cut_rest c in (r ++ tail.0, tail.1 ∙ ap (λ l. l ++ tail.0) is)
 
 module _ (d : DescV) (most : ℕ) (shaped : Shaped d) where
-  octet_spare : (s : Symbol) (o p : ℕ) → p ≡ o % 8 → (a : ℕ) (r w : List ℕ) → w ≡ a ∷ r → length w ≡ 1 → IsSpare d.reading s p w → IsSpare d.reading s (o % 8) (a ∷ [])
+  octet_spare : (s : Symbol) (o p : ℕ) → p ≡ o % 8 → (a : ℕ) (r w : List ℕ)
+      → w ≡ a ∷ r → length w ≡ 1 → IsSpare d.reading s p w → IsSpare d.reading s (o % 8) (a ∷ [])
   octet_spare s o p oct a [] w is one spare =
       let P : List ℕ → Type 0 = λ l. IsSpare d.reading s p l in
       let Q : ℕ → Type 0 = λ q. IsSpare d.reading s q (a ∷ []) in
@@ -111,7 +125,8 @@ module _ (d : DescV) (most : ℕ) (shaped : Shaped d) where
     pub key_start : {i : ℕ} {x : List ℕ} {mark : Bool} (o p a : ℕ) (r : List ℕ) → p ≡ o % 8 → x ≡ a ∷ r → InKeys d most i p x mark → InStart d i (o % 8) a
     key_start o p a r oct is (keys_at n at h) = starts_at n at (node_key_start o p a r oct is h)
 
-    node_key_start : {n : Node} {x : List ℕ} {mark : Bool} (o p a : ℕ) (r : List ℕ) → p ≡ o % 8 → x ≡ a ∷ r → NodeKeys d most n p x mark → NodeStarts d n (o % 8) a
+    node_key_start : {n : Node} {x : List ℕ} {mark : Bool} (o p a : ℕ) (r : List ℕ)
+        → p ≡ o % 8 → x ≡ a ∷ r → NodeKeys d most n p x mark → NodeStarts d n (o % 8) a
     node_key_start o p a r oct is (keys_lits {run = []} c) = let first = first_of a r is c in let same = first.1 in absurd (cc)
     node_key_start o p a r oct is (keys_lits {run = s ∷ run} c) =
         let first = first_of a r is c in
@@ -135,20 +150,24 @@ module _ (d : DescV) (most : ℕ) (shaped : Shaped d) where
     node_key_start o p a r oct is (keys_choice j at h) = starts_choice j at (key_start o p a r oct is h)
     node_key_start o p a r oct is (keys_named h) = starts_named (key_start o p a r oct is h)
 
-    parts_key_start : {parts : List ℕ} {x : List ℕ} {mark : Bool} (o p a : ℕ) (r : List ℕ) → p ≡ o % 8 → x ≡ a ∷ r → PartsKeys d most parts p x mark → PartsStart d parts (o % 8) a
+    parts_key_start : {parts : List ℕ} {x : List ℕ} {mark : Bool} (o p a : ℕ) (r : List ℕ)
+        → p ≡ o % 8 → x ≡ a ∷ r → PartsKeys d most parts p x mark → PartsStart d parts (o % 8) a
     parts_key_start o p a r oct is (parts_none nothing mark) = absurd (cc)
     parts_key_start o p a r oct is (parts_cut h mark) = starts_here (key_start o p a r oct is h)
     parts_key_start o p a r oct is (parts_whole [] w2 rest h hs c) =
         let first = first_of a r is c in
         let m = key_meant d most o p [] oct refl h in
-        starts_later ((o + length {A = ℕ} []) % 8) (nullable d shaped m.1 refl) (ends d shaped (o + length {A = ℕ} []) refl shaped.none_fit m.1) (parts_key_start (o + length {A = ℕ} []) ((p + length {A = ℕ} []) % 8) a first.0 (octet_next o p (length {A = ℕ} []) oct) first.1 hs)
+        starts_later ((o + length {A = ℕ} []) % 8) (nullable d shaped m.1 refl)
+        (ends d shaped (o + length {A = ℕ} []) refl shaped.none_fit m.1) (parts_key_start (o + length {A = ℕ} [])
+        ((p + length {A = ℕ} []) % 8) a first.0 (octet_next o p (length {A = ℕ} []) oct) first.1 hs)
     parts_key_start o p a r oct is (parts_whole (k ∷ w1) w2 rest h hs c) =
         let first = first_of a r is c in
         let whole : k ∷ (w1 ++ w2) ≡ a ∷ first.0 = first.1 in
         let same : k ∷ w1 ≡ a ∷ w1 = cc in
         starts_here (key_start o p a w1 oct same h)
 
-    times_key_start : {n i : ℕ} {x : List ℕ} {mark : Bool} (o p a : ℕ) (r : List ℕ) → p ≡ o % 8 → x ≡ a ∷ r → TimesKeys d most n i p x mark → InStart d i (o % 8) a
+    times_key_start : {n i : ℕ} {x : List ℕ} {mark : Bool} (o p a : ℕ) (r : List ℕ)
+        → p ≡ o % 8 → x ≡ a ∷ r → TimesKeys d most n i p x mark → InStart d i (o % 8) a
     times_key_start o p a r oct is (times_none over nothing mark) = absurd (cc)
     times_key_start o p a r oct is (times_cut m over h mark) = key_start o p a r oct is h
     times_key_start {i = i} o p a r oct is (times_whole m over [] w2 rest h hs c) =

@@ -1,6 +1,8 @@
 -- Each well-formed node has a key at each octet position, and bits that it follows begin with a key, or are the
 -- beginning of one.
-use Rattle.std.proofs.Common.{◌≡◌, ℕ, zero, suc, ◌+◌, ◌*◌, ◌%◌, Bool, true, false, List, [], ◌∷◌, ◌++◌, length, take, drop, take-append-drop, refl, sym, ◌∙◌, ap, subst, arith, append_assoc, append-nil, length-append, inl, inr, Some, slice_get}
+use Rattle.std.proofs.Common.{◌≡◌, ℕ, zero, suc, ◌+◌, ◌*◌, ◌%◌, Bool, true, false, List, [], ◌∷◌, ◌++◌, length, take}
+use Rattle.std.proofs.Common.{drop, take-append-drop, refl, sym, ◌∙◌, ap, subst, arith, append_assoc, append-nil}
+use Rattle.std.proofs.Common.{length-append, inl, inr, Some, slice_get}
 use Rattle.std.specs.Prelude.{replicate}
 use Rattle.std.proofs.lemmas.Bool.Decides.{leb_tells}
 use Rattle.std.proofs.lemmas.List.{length-replicate}
@@ -12,12 +14,19 @@ use Rattle.csn_desc.specs.declared.node.Node.TheVariants.{Lits, Spare, Pad, Null
 use Rattle.csn_desc.specs.Nodes.{DescV, parts_of}
 use Rattle.csn_desc.specs.Spelled.{spelled}
 use Rattle.csn_desc.specs.Values.{Values, count_of}
-use Rattle.csn_desc.specs.Follows.{NFollow, NodeFollows, PartsFollow, TimesFollow, follows_at, follows_whole, follows_lits, follows_spare, follows_pad, follows_field, follows_seq, follows_choice, follows_times, follows_many, follows_trunc, follows_window, follows_named, parts_here, parts_later, times_here, times_later}
+use Rattle.csn_desc.specs.Follows.{NFollow, NodeFollows, PartsFollow, TimesFollow, follows_at, follows_whole}
+use Rattle.csn_desc.specs.Follows.{follows_lits, follows_spare, follows_pad, follows_field, follows_seq}
+use Rattle.csn_desc.specs.Follows.{follows_choice, follows_times, follows_many, follows_trunc, follows_window}
+use Rattle.csn_desc.specs.Follows.{follows_named, parts_here, parts_later, times_here, times_later}
 use Rattle.csn_desc.specs.Formed.{Formed, PartsFormed, formed, formed_end, formed_next}
 use Rattle.csn_desc.proofs.Nodewise.{held_along}
 use Rattle.csn_desc.proofs.Splits.{splits, inside, behind}
 use Rattle.csn_desc.proofs.BitFacts.{spelled_is_spare}
-use Rattle.csn_look.specs.Keys.{Cut, kept, cut, InKeys, NodeKeys, PartsKeys, TimesKeys, keys_at, keys_lits, keys_spare, keys_field, keys_pad, keys_null, keys_rest, keys_many, keys_trunc, keys_window, keys_counted_field, keys_counted_times, keys_seq, keys_times, keys_choice, keys_named, parts_none, parts_cut, parts_whole, times_none, times_cut, times_whole}
+use Rattle.csn_look.specs.Keys.{Cut, kept, cut, InKeys, NodeKeys, PartsKeys, TimesKeys, keys_at, keys_lits}
+use Rattle.csn_look.specs.Keys.{keys_spare, keys_field, keys_pad, keys_null, keys_rest, keys_many, keys_trunc}
+use Rattle.csn_look.specs.Keys.{keys_window, keys_counted_field, keys_counted_times, keys_seq, keys_times}
+use Rattle.csn_look.specs.Keys.{keys_choice, keys_named, parts_none, parts_cut, parts_whole, times_none, times_cut}
+use Rattle.csn_look.specs.Keys.{times_whole}
 use Rattle.csn_look.specs.Beginnings.{Begun, Near, near_begun, near_within}
 use Rattle.csn_look.proofs.Meaning.KeyFacts.{keys, node_keys, as_key, unread, octet_word, marked_key, whole_word, cut_first, both_words}
 use Rattle.csn_bits.proofs.Packing.{IsBits-zeros}
@@ -44,7 +53,8 @@ nothing_read mark key = record { word = []; mark = mark; key = key }
 
 module _ (d : DescV) (most : ℕ) where
   -- the key of a first part, with a key of the others behind it where it is whole
-  parts_found : (i : ℕ) (parts : List ℕ) (o : ℕ) → Found (InKeys d most i o) → ((p : ℕ) → Found (PartsKeys d most parts p)) → Found (PartsKeys d most (i ∷ parts) o)
+  parts_found : (i : ℕ) (parts : List ℕ) (o : ℕ) → Found (InKeys d most i o)
+      → ((p : ℕ) → Found (PartsKeys d most parts p)) → Found (PartsKeys d most (i ∷ parts) o)
   parts_found i parts o h others = by_mark h.mark h.key
     where
       by_mark : (mark : Bool) → InKeys d most i o h.word mark → Found (PartsKeys d most (i ∷ parts) o)
@@ -67,7 +77,8 @@ module _ (d : DescV) (most : ℕ) where
 
   field_found : (unit : ℕ) (count : Count) (o : ℕ) → Found (NodeKeys d most (Field unit count) o)
   field_found unit (Fixed n) o =
-      found_of {most = most} (replicate (unit * n) 0) true (λ x mark c. keys_field (replicate (unit * n) 0) (length-replicate (unit * n) 0) (IsBits-zeros (unit * n)) c)
+      found_of {most = most} (replicate (unit * n) 0) true (λ x mark c. keys_field (replicate (unit * n) 0)
+      (length-replicate (unit * n) 0) (IsBits-zeros (unit * n)) c)
   field_found unit (Counted m field c) o = nothing_read false (keys_counted_field refl refl)
 
   repeat_found : (count : Count) (i o : ℕ) → ((p : ℕ) → Found (InKeys d most i p)) → Found (NodeKeys d most (Times count i) o)
@@ -79,9 +90,12 @@ module _ (d : DescV) (most : ℕ) where
     pub has_key : {seen : List ℕ} {round i : ℕ} → Formed d.nodes seen round i → (o : ℕ) → Found (InKeys d most i o)
     has_key (formed (Lits run) at few head have room held) o = found_of {most = most} (spelled run o) true (λ x mark c. keys_at (Lits run) at (keys_lits c))
     has_key (formed (Spare s) at few head have room held) o =
-        found_of {most = most} (spelled (s ∷ []) o) true (λ x mark c. keys_at (Spare s) at (keys_spare (spelled (s ∷ []) o) refl (spelled_is_spare d.reading s o) c))
+        found_of {most = most} (spelled (s ∷ []) o) true
+        (λ x mark c. keys_at (Spare s) at (keys_spare (spelled (s ∷ []) o) refl (spelled_is_spare d.reading s o)
+        c))
     has_key (formed Pad at few head have room held) o =
-        found_of {most = most} (spelled (Low ∷ []) o) false (λ x mark c. keys_at Pad at (keys_pad (spelled (Low ∷ []) o) refl (spelled_is_spare d.reading Low o) c))
+        found_of {most = most} (spelled (Low ∷ []) o) false
+        (λ x mark c. keys_at Pad at (keys_pad (spelled (Low ∷ []) o) refl (spelled_is_spare d.reading Low o) c))
     has_key (formed Null at few head have room held) o = nothing_read true (keys_at Null at (keys_null refl refl))
     has_key (formed (Field unit count) at few head have room held) o = found_as (λ x mark key. keys_at (Field unit count) at key) (field_found unit count o)
     has_key (formed Rest at few head have room held) o = nothing_read false (keys_at Rest at (keys_rest refl refl))
@@ -97,7 +111,8 @@ module _ (d : DescV) (most : ℕ) where
     has_key (formed (Named label p) at few head have room (formed_next first others)) o =
         found_as (λ x mark key. keys_at (Named label p) at (keys_named key)) (has_key first o)
 
-    pub parts_have_key : {shows : Bool} {seen : List ℕ} {round : ℕ} {parts : List ℕ} → PartsFormed d.nodes shows seen round parts → (o : ℕ) → Found (PartsKeys d most parts o)
+    pub parts_have_key : {shows : Bool} {seen : List ℕ} {round : ℕ} {parts : List ℕ}
+        → PartsFormed d.nodes shows seen round parts → (o : ℕ) → Found (PartsKeys d most parts o)
     parts_have_key formed_end o = nothing_read true (parts_none refl refl)
     parts_have_key (formed_next {i = i} {parts = parts} first others) o = parts_found i parts o (has_key first o) (λ p. parts_have_key others p)
 
@@ -130,7 +145,8 @@ near_front {P} b rest is h =
     ]
 
 -- a word that the bits begin, or that begins them, cut
-near_word : (most : ℕ) (w : List ℕ) (whole : Bool) (P : List ℕ → Bool → Type 0) (b rest : List ℕ) → w ≡ b ++ rest → ((x : List ℕ) (mark : Bool) → Cut most w whole x mark → P x mark) → Near P b
+near_word : (most : ℕ) (w : List ℕ) (whole : Bool) (P : List ℕ → Bool → Type 0) (b rest : List ℕ)
+    → w ≡ b ++ rest → ((x : List ℕ) (mark : Bool) → Cut most w whole x mark → P x mark) → Near P b
 near_word most w whole P b rest is make =
     elim (leb_tells (length w) most) [
       | inl short ↦ near_within rest (make w whole (kept short.1 refl refl)) is
@@ -147,11 +163,24 @@ near_word most w whole P b rest is make =
 -- ---- a part, and keys of what stands behind it
 
 module _ (d : DescV) (most : ℕ) where
-  near_first : {i : ℕ} (o : ℕ) (P : ℕ → List ℕ → Bool → Type 0) (Q : List ℕ → Bool → Type 0) → ((x : List ℕ) → InKeys d most i (o % 8) x false → Q x false) → ((w1 w2 : List ℕ) (rest : Bool) (x : List ℕ) (mark : Bool) → InKeys d most i (o % 8) w1 true → P ((o % 8 + length w1) % 8) w2 rest → Cut most (w1 ++ w2) rest x mark → Q x mark) → (b : List ℕ) → Near (InKeys d most i (o % 8)) b → ((p : ℕ) → Found (P p)) → Near Q b
+  near_first : {i : ℕ} (o : ℕ) (P : ℕ → List ℕ → Bool → Type 0) (Q : List ℕ → Bool → Type 0)
+      → ((x : List ℕ) → InKeys d most i (o % 8) x false → Q x false)
+      → ((w1 w2 : List ℕ) (rest : Bool) (x : List ℕ) (mark : Bool) → InKeys d most i (o % 8) w1 true → P
+      ((o % 8 + length w1) % 8) w2 rest → Cut most (w1 ++ w2) rest x mark → Q x mark) → (b : List ℕ)
+      → Near (InKeys d most i (o % 8)) b → ((p : ℕ) → Found (P p)) → Near Q b
   near_first {i} o P Q cuts wholes b (near_begun h) others = by_mark h.mark refl
     where
       by_mark : (mark : Bool) → h.mark ≡ mark → Near Q b
-      by_mark false is = near_begun (record { word = h.word; mark = false; rest = h.rest; key = cuts h.word (marked_key d most h is); begins = h.begins; whole = λ yes. absurd (cc) })
+      by_mark false is =
+          near_begun (record {
+            word = h.word;
+            mark = false;
+            rest = h.rest;
+            key =
+                cuts h.word (marked_key d most h is);
+            begins = h.begins;
+            whole = λ yes. absurd (cc);
+          })
       by_mark true is =
           let second = others ((o % 8 + length h.word) % 8) in
           let all = whole_word d most h is in
@@ -163,12 +192,17 @@ module _ (d : DescV) (most : ℕ) where
       near_word most (word ++ second.word) second.mark Q b (rest ++ second.word) (ap (λ l. l ++ second.word) is ∙ append_assoc b rest second.word)
       (λ x mark c. wholes word second.word second.mark x mark key second.key c)
 
-  near_later : {i : ℕ} (o : ℕ) (P : ℕ → List ℕ → Bool → Type 0) (Q : List ℕ → Bool → Type 0) → ((x : List ℕ) → InKeys d most i (o % 8) x false → Q x false) → ((w1 w2 : List ℕ) (rest : Bool) (x : List ℕ) (mark : Bool) → InKeys d most i (o % 8) w1 true → P ((o % 8 + length w1) % 8) w2 rest → Cut most (w1 ++ w2) rest x mark → Q x mark) → (b1 b2 : List ℕ) {b : List ℕ} → b ≡ b1 ++ b2 → Begun (InKeys d most i (o % 8)) b1 → Near (P ((o + length b1) % 8)) b2 → Near Q b
+  near_later : {i : ℕ} (o : ℕ) (P : ℕ → List ℕ → Bool → Type 0) (Q : List ℕ → Bool → Type 0)
+      → ((x : List ℕ) → InKeys d most i (o % 8) x false → Q x false)
+      → ((w1 w2 : List ℕ) (rest : Bool) (x : List ℕ) (mark : Bool) → InKeys d most i (o % 8) w1 true → P
+      ((o % 8 + length w1) % 8) w2 rest → Cut most (w1 ++ w2) rest x mark → Q x mark) → (b1 b2 : List ℕ) {b : List ℕ}
+      → b ≡ b1 ++ b2 → Begun (InKeys d most i (o % 8)) b1 → Near (P ((o + length b1) % 8)) b2 → Near Q b
   near_later {i} o P Q cuts wholes b1 b2 {b = b} is h others = by_mark h.mark refl
     where
       both : h.mark ≡ true → Near (P ((o + length b1) % 8)) b2 → Near Q b
       both full (near_begun second) =
-          near_begun (both_words d most o P Q b1 b2 is h.word (whole_word d most h full) second (λ w2 rest x mark key c. wholes h.word w2 rest x mark (marked_key d most h full) key c))
+          near_begun (both_words d most o P Q b1 b2 is h.word (whole_word d most h full) second
+          (λ w2 rest x mark key c. wholes h.word w2 rest x mark (marked_key d most h full) key c))
       both full (near_within {word = word} {mark = mark} rest key more_is) =
           let all = whole_word d most h full in
           let here = octet_word d most o all (λ p. P p word mark) key in
@@ -180,7 +214,8 @@ module _ (d : DescV) (most : ℕ) where
       by_mark false part = near_begun (cut_first d most cuts b2 is h part)
       by_mark true full = both full others
 
-  repeat_near : (count : Count) (v : Values) {n i : ℕ} (o : ℕ) (b : List ℕ) → count_of v count ≡ Some n → Near (TimesKeys d most n i o) b → Near (NodeKeys d most (Times count i) o) b
+  repeat_near : (count : Count) (v : Values) {n i : ℕ} (o : ℕ) (b : List ℕ)
+      → count_of v count ≡ Some n → Near (TimesKeys d most n i o) b → Near (NodeKeys d most (Times count i) o) b
   repeat_near (Fixed k) v {n = n} {i = i} o b counts h =
       let same : k ≡ n = cc in
       let P : ℕ → Type 0 = λ n. Near (TimesKeys d most n i o) b in
@@ -192,7 +227,8 @@ module _ (d : DescV) (most : ℕ) where
     seen : List ℕ
     is : Formed d.nodes seen round i
 
-  part_formed : {shows : Bool} {seen : List ℕ} {round : ℕ} {parts : List ℕ} (j i : ℕ) → PartsFormed d.nodes shows seen round parts → slice_get parts j ≡ Some i → PartFormed round i
+  part_formed : {shows : Bool} {seen : List ℕ} {round : ℕ} {parts : List ℕ} (j i : ℕ)
+      → PartsFormed d.nodes shows seen round parts → slice_get parts j ≡ Some i → PartFormed round i
   part_formed j i formed_end at = absurd (cc)
   part_formed {seen = seen} {round = round} zero i (formed_next {i = p} first others) at =
       let same : p ≡ i = cc in
@@ -201,11 +237,14 @@ module _ (d : DescV) (most : ℕ) where
   part_formed (suc j) i (formed_next first others) at = part_formed j i others at
 
   mutual
-    pub near_keys : {seen : List ℕ} {round i o : ℕ} {v : Values} {b : List ℕ} → Formed d.nodes seen round i → NFollow d i o v b → Near (InKeys d most i (o % 8)) b
+    pub near_keys : {seen : List ℕ} {round i o : ℕ} {v : Values} {b : List ℕ}
+        → Formed d.nodes seen round i → NFollow d i o v b → Near (InKeys d most i (o % 8)) b
     near_keys (formed n at few head have room held) (follows_at m is h) =
         let same : n ≡ m = cc in near_as (λ x mark key. keys_at m is key) (node_near (held_along d.nodes same held) h)
 
-    node_near : {shows : Bool} {seen : List ℕ} {round o : ℕ} {n : Node} {v : Values} {b : List ℕ} → PartsFormed d.nodes shows seen round (parts_of n) → NodeFollows d n o v b → Near (NodeKeys d most n (o % 8)) b
+    node_near : {shows : Bool} {seen : List ℕ} {round o : ℕ} {n : Node} {v : Values} {b : List ℕ}
+        → PartsFormed d.nodes shows seen round (parts_of n)
+        → NodeFollows d n o v b → Near (NodeKeys d most n (o % 8)) b
     node_near held (follows_whole t h) = near_begun (node_keys d most h)
     node_near {b = b} held (follows_lits whole rest is h) = near_front b rest is (node_keys d most h)
     node_near {b = b} held (follows_spare whole rest is h) = near_front b rest is (node_keys d most h)
@@ -220,16 +259,29 @@ module _ (d : DescV) (most : ℕ) where
     node_near {b = b} held (follows_window n counts few h) = near_begun (unread b (keys_window refl refl))
     node_near (formed_next first others) (follows_named h) = near_as (λ x mark key. keys_named key) (near_keys first h)
 
-    pub parts_near : {shows : Bool} {seen : List ℕ} {round o : ℕ} {parts : List ℕ} {v : Values} {b : List ℕ} → PartsFormed d.nodes shows seen round parts → PartsFollow d parts o v b → Near (PartsKeys d most parts (o % 8)) b
+    pub parts_near : {shows : Bool} {seen : List ℕ} {round o : ℕ} {parts : List ℕ} {v : Values} {b : List ℕ}
+        → PartsFormed d.nodes shows seen round parts → PartsFollow d parts o v b
+        → Near (PartsKeys d most parts (o % 8)) b
     parts_near formed_end h = elim h [ ]
     parts_near {o = o} {b = b} (formed_next {i = i} {parts = parts} first others) (parts_here h) =
-        near_first o (λ p x mark. PartsKeys d most parts p x mark) (PartsKeys d most (i ∷ parts) (o % 8)) (λ x key. parts_cut key refl) (λ w1 w2 rest x mark key behind_it c. parts_whole w1 w2 rest key behind_it c) b (near_keys first h) (λ p. parts_have_key d most others p)
+        near_first o (λ p x mark. PartsKeys d most parts p x mark) (PartsKeys d most (i ∷ parts) (o % 8))
+        (λ x key. parts_cut key refl) (λ w1 w2 rest x mark key behind_it c. parts_whole w1 w2 rest key behind_it
+        c) b (near_keys first h) (λ p. parts_have_key d most others p)
     parts_near {o = o} {b = b} (formed_next {i = i} {parts = parts} first others) (parts_later b1 b2 is h hs) =
-        near_later o (λ p x mark. PartsKeys d most parts p x mark) (PartsKeys d most (i ∷ parts) (o % 8)) (λ x key. parts_cut key refl) (λ w1 w2 rest x mark key behind_it c. parts_whole w1 w2 rest key behind_it c) b1 b2 is (keys d most h) (parts_near others hs)
+        near_later o (λ p x mark. PartsKeys d most parts p x mark) (PartsKeys d most (i ∷ parts) (o % 8))
+        (λ x key. parts_cut key refl) (λ w1 w2 rest x mark key behind_it c. parts_whole w1 w2 rest key behind_it
+        c) b1 b2 is (keys d most h) (parts_near others hs)
 
-    pub times_near : {seen : List ℕ} {round n i o : ℕ} {v : Values} {b : List ℕ} → Formed d.nodes seen round i → TimesFollow d n i o v b → Near (TimesKeys d most n i (o % 8)) b
+    pub times_near : {seen : List ℕ} {round n i o : ℕ} {v : Values} {b : List ℕ}
+        → Formed d.nodes seen round i → TimesFollow d n i o v b → Near (TimesKeys d most n i (o % 8)) b
     times_near {n = zero} first (times_here some h) = absurd (omega arith)
     times_near {n = suc m} {i = i} {o = o} {b = b} first (times_here some h) =
-        near_first o (λ p x mark. TimesKeys d most m i p x mark) (TimesKeys d most (suc m) i (o % 8)) (λ x key. times_cut m refl key refl) (λ w1 w2 rest x mark key behind_it c. times_whole m refl w1 w2 rest key behind_it c) b (near_keys first h) (λ p. times_found d most m i p (λ q. has_key d most first q))
+        near_first o (λ p x mark. TimesKeys d most m i p x mark) (TimesKeys d most (suc m) i (o % 8))
+        (λ x key. times_cut m refl key refl)
+        (λ w1 w2 rest x mark key behind_it c. times_whole m refl w1 w2 rest key behind_it c) b (near_keys first h)
+        (λ p. times_found d most m i p (λ q. has_key d most first q))
     times_near {n = n} {i = i} {o = o} {b = b} first (times_later m over b1 b2 is h hs) =
-        near_later o (λ p x mark. TimesKeys d most m i p x mark) (TimesKeys d most n i (o % 8)) (λ x key. times_cut m over key refl) (λ w1 w2 rest x mark key behind_it c. times_whole m over w1 w2 rest key behind_it c) b1 b2 is (keys d most h) (times_near first hs)
+        near_later o (λ p x mark. TimesKeys d most m i p x mark) (TimesKeys d most n i (o % 8))
+        (λ x key. times_cut m over key refl)
+        (λ w1 w2 rest x mark key behind_it c. times_whole m over w1 w2 rest key behind_it c) b1 b2 is
+        (keys d most h) (times_near first hs)

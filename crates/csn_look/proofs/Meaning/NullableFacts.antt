@@ -7,9 +7,14 @@ use Rattle.csn_desc.specs.declared.node.Node.TheVariants.{Field, Times, Window}
 use Rattle.csn_desc.specs.TreeV.{TreeV, Trees}
 use Rattle.csn_desc.specs.Nodes.{DescV}
 use Rattle.csn_desc.specs.Values.{Values, value_of, count_of}
-use Rattle.csn_desc.specs.Means.{NMeans, NodeMeans, PartsMean, means_at, means_lits, means_spare, means_pad, means_null, means_field, means_rest, means_seq, means_choice, means_times, means_many, means_cut, means_trunc, means_window, means_named, parts_end, parts_next, times_end, times_next}
+use Rattle.csn_desc.specs.Means.{NMeans, NodeMeans, PartsMean, means_at, means_lits, means_spare, means_pad}
+use Rattle.csn_desc.specs.Means.{means_null, means_field, means_rest, means_seq, means_choice, means_times}
+use Rattle.csn_desc.specs.Means.{means_many, means_cut, means_trunc, means_window, means_named, parts_end, parts_next}
+use Rattle.csn_desc.specs.Means.{times_end, times_next}
 use Rattle.csn_desc.proofs.Splits.{front_empty, rest_empty}
-use Rattle.csn_look.specs.Nullable.{Nullable, NodeNullable, AllNullable, nullable_at, nullable_null, nullable_rest, nullable_many, nullable_trunc, nullable_field, nullable_times, nullable_no_times, nullable_window, nullable_seq, nullable_choice, nullable_named, all_end, all_next}
+use Rattle.csn_look.specs.Nullable.{Nullable, NodeNullable, AllNullable, nullable_at, nullable_null, nullable_rest}
+use Rattle.csn_look.specs.Nullable.{nullable_many, nullable_trunc, nullable_field, nullable_times, nullable_no_times}
+use Rattle.csn_look.specs.Nullable.{nullable_window, nullable_seq, nullable_choice, nullable_named, all_end, all_next}
 use Rattle.csn_look.proofs.Meaning.ShapeFacts.{CountIs, NodeIs, Shaped}
 
 no_units : (unit n : ℕ) (b : List ℕ) → 0 < unit → length b ≡ unit * n → b ≡ [] → n ≡ 0
@@ -30,7 +35,8 @@ module _ (d : DescV) where
   no_field unit (Counted m field c) v is counts none =
       nullable_field (none_added m c (value_of v field) (counts ∙ ap Some none))
 
-  no_window : (unit : ℕ) (count : Count) (v : Values) {i n : ℕ} → CountIs d.nodes count → count_of v count ≡ Some n → n ≡ 0 → Nullable d i → NodeNullable d (Window unit count i)
+  no_window : (unit : ℕ) (count : Count) (v : Values) {i n : ℕ} → CountIs d.nodes count → count_of v count ≡ Some n
+      → n ≡ 0 → Nullable d i → NodeNullable d (Window unit count i)
   no_window unit (Fixed k) v is counts none h = let same : k ≡ 0 = cc in absurd (omega arith)
   no_window unit (Counted m field c) v is counts none h =
       nullable_window (none_added m c (value_of v field) (counts ∙ ap Some none)) h

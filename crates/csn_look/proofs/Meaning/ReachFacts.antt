@@ -9,7 +9,9 @@ use Rattle.csn_desc.specs.Values.{Values, count_of}
 use Rattle.csn_desc.specs.Means.{TimesMean}
 use Rattle.csn_desc.specs.Formed.{FitWidths}
 use Rattle.csn_look.specs.Ends.{InEnds, PartsEnd, TimesEnd, ManyEnd, parts_end, parts_next, times_end, times_next, many_end, many_next}
-use Rattle.csn_look.specs.Reached.{Reached, Turn, turn_fixed, turn_counted, reached_part, reached_seq, reached_trunc, reached_choice, reached_window, reached_named, reached_times, reached_counted, reached_many}
+use Rattle.csn_look.specs.Reached.{Reached, Turn, turn_fixed, turn_counted, reached_part, reached_seq, reached_trunc}
+use Rattle.csn_look.specs.Reached.{reached_choice, reached_window, reached_named, reached_times, reached_counted}
+use Rattle.csn_look.specs.Reached.{reached_many}
 use Rattle.csn_look.proofs.Meaning.ShapeFacts.{Shaped}
 use Rattle.csn_look.proofs.Meaning.EndsFacts.{times_ends, counted_ends}
 use Rattle.csn_look.proofs.Meaning.FollowFacts.{Cuts}
@@ -48,11 +50,15 @@ module _ (d : DescV) where
 
   -- ---- parts are reached
 
-  pub seq_reached : {k i from o : ℕ} {parts before : List ℕ} (after : List ℕ) → slice_get d.nodes k ≡ Some (Seq parts) → parts ≡ before ++ i ∷ after → Reached d k from → PartsEnd d before from o → Reached d i o
+  pub seq_reached : {k i from o : ℕ} {parts before : List ℕ} (after : List ℕ) → slice_get d.nodes k ≡ Some (Seq parts)
+      → parts ≡ before ++ i ∷ after → Reached d k from → PartsEnd d before from o → Reached d i o
   seq_reached {k} {from = from} {parts = parts} {before = before} after at is h ends = reached_part k from (Seq parts) before after at is h (reached_seq ends)
 
-  pub lead_reached : {k i from o : ℕ} {parts before : List ℕ} (after : List ℕ) → slice_get d.nodes k ≡ Some (Trunc parts) → parts ≡ before ++ i ∷ after → Reached d k from → PartsEnd d before from o → Reached d i o
-  lead_reached {k} {from = from} {parts = parts} {before = before} after at is h ends = reached_part k from (Trunc parts) before after at is h (reached_trunc ends)
+  pub lead_reached : {k i from o : ℕ} {parts before : List ℕ} (after : List ℕ)
+      → slice_get d.nodes k ≡ Some (Trunc parts) → parts ≡ before ++ i ∷ after → Reached d k from
+      → PartsEnd d before from o → Reached d i o
+  lead_reached {k} {from = from} {parts = parts} {before = before} after at is h ends =
+      reached_part k from (Trunc parts) before after at is h (reached_trunc ends)
 
   pub choice_reached : {k i o : ℕ} {parts : List ℕ} → slice_get d.nodes k ≡ Some (Choice parts) → Cuts parts i → Reached d k o → Reached d i o
   choice_reached {k} {o = o} {parts = parts} at cut h = reached_part k o (Choice parts) cut.before cut.after at cut.is h (reached_choice refl)
@@ -66,7 +72,8 @@ module _ (d : DescV) where
   pub many_reached : {k i from o : ℕ} → slice_get d.nodes k ≡ Some (Many i) → Reached d k from → ManyEnd d i from o → Reached d i o
   many_reached {k} {i} {from} at h ends = reached_part k from (Many i) [] [] at refl h (reached_many ends)
 
-  pub turn_reached : {k i n left from o : ℕ} {count : Count} → slice_get d.nodes k ≡ Some (Times count i) → Reached d k from → n ≡ suc left → Turn d count i n from o → Reached d i o
+  pub turn_reached : {k i n left from o : ℕ} {count : Count} → slice_get d.nodes k ≡ Some (Times count i)
+      → Reached d k from → n ≡ suc left → Turn d count i n from o → Reached d i o
   turn_reached {k} {i} {from = from} at h is (turn_fixed {n = all} m sum ends) =
       reached_part k from (Times (Fixed all) i) [] [] at refl h (reached_times m (omega arith) ends)
   turn_reached {k} {i} {from = from} at h is (turn_counted {m = m} {field = field} {c = c} ends) =
@@ -74,7 +81,9 @@ module _ (d : DescV) where
 
 module _ (d : DescV) (shaped : Shaped d) where
   -- behind fewer turns than there are
-  pub times_reached : {k i o m n : ℕ} {b : List ℕ} {ts : Trees} (count : Count) (v : Values) (p : ℕ) → p ≡ o + length b → slice_get d.nodes k ≡ Some (Times count i) → count_of v count ≡ Some n → m < n → FitWidths d v → Reached d k (o % 8) → TimesMean d m i o v b ts → Reached d i (p % 8)
+  pub times_reached : {k i o m n : ℕ} {b : List ℕ} {ts : Trees} (count : Count) (v : Values) (p : ℕ)
+      → p ≡ o + length b → slice_get d.nodes k ≡ Some (Times count i) → count_of v count ≡ Some n → m < n
+      → FitWidths d v → Reached d k (o % 8) → TimesMean d m i o v b ts → Reached d i (p % 8)
   times_reached {k} {i} {o} {m} {n} (Fixed all) v p is at counts less fits h meant =
       let same : all ≡ n = cc in
       reached_part k (o % 8) (Times (Fixed all) i) [] [] at refl h (reached_times m (omega arith) (times_ends d shaped p is fits meant))

@@ -1,5 +1,6 @@
 -- What each node of a well-formed description is, and what the values that it sees are.
-use Rattle.std.proofs.Common.{◌≡◌, ℕ, ◌+◌, ◌*◌, ◌%◌, ◌<◌, ◌≤◌, List, [], ◌++◌, length, refl, ap, subst, arith, length-append, inl, inr, Option, Some, None, option_map, slice_get, IsSomeAnd}
+use Rattle.std.proofs.Common.{◌≡◌, ℕ, ◌+◌, ◌*◌, ◌%◌, ◌<◌, ◌≤◌, List, [], ◌++◌, length, refl, ap, subst, arith}
+use Rattle.std.proofs.Common.{length-append, inl, inr, Option, Some, None, option_map, slice_get, IsSomeAnd}
 use Rattle.std.specs.Prelude.{⊤}
 use Rattle.csn_desc.specs.declared.node.Count.{Count}
 use Rattle.csn_desc.specs.declared.node.Count.TheVariants.{Fixed, Counted}
@@ -17,7 +18,11 @@ use Rattle.csn_look.specs.Ends.{MayCount, may_fixed, may_counted}
 -- ---- nodes
 
 -- a node of none of these kinds has no parts
-pub has_no_parts : (n : Node) → ((parts : List ℕ) → ¬ (n ≡ Seq parts)) → ((parts : List ℕ) → ¬ (n ≡ Choice parts)) → ((count : Count) (part : ℕ) → ¬ (n ≡ Times count part)) → ((part : ℕ) → ¬ (n ≡ Many part)) → ((parts : List ℕ) → ¬ (n ≡ Trunc parts)) → ((unit : ℕ) (count : Count) (part : ℕ) → ¬ (n ≡ Window unit count part)) → ((label : List ℕ) (part : ℕ) → ¬ (n ≡ Named label part)) → parts_of n ≡ []
+pub has_no_parts : (n : Node) → ((parts : List ℕ) → ¬ (n ≡ Seq parts)) → ((parts : List ℕ) → ¬ (n ≡ Choice parts))
+    → ((count : Count) (part : ℕ) → ¬ (n ≡ Times count part)) → ((part : ℕ) → ¬ (n ≡ Many part))
+    → ((parts : List ℕ) → ¬ (n ≡ Trunc parts))
+    → ((unit : ℕ) (count : Count) (part : ℕ) → ¬ (n ≡ Window unit count part))
+    → ((label : List ℕ) (part : ℕ) → ¬ (n ≡ Named label part)) → parts_of n ≡ []
 has_no_parts (Seq parts) no_seq no_choice no_times no_many no_trunc no_window no_name = absurd (no_seq parts refl)
 has_no_parts (Choice parts) no_seq no_choice no_times no_many no_trunc no_window no_name = absurd (no_choice parts refl)
 has_no_parts (Times count part) no_seq no_choice no_times no_many no_trunc no_window no_name = absurd (no_times count part refl)
@@ -55,7 +60,8 @@ pub record Shaped (d : DescV) : Type 0 where
   pub none_fit : FitWidths d []
   pub fit_on : (i o : ℕ) (v : Values) (b : List ℕ) (t : TreeV) → FitWidths d v → NMeans d i o v b t → FitWidths d (with_value d.nodes i b v)
 
-pub kept : (d : DescV) → Shaped d → {i o : ℕ} {v : Values} {b : List ℕ} {t : TreeV} → FitWidths d v → NMeans d i o v b t → FitWidths d (with_value d.nodes i b v)
+pub kept : (d : DescV) → Shaped d → {i o : ℕ} {v : Values} {b : List ℕ} {t : TreeV}
+    → FitWidths d v → NMeans d i o v b t → FitWidths d (with_value d.nodes i b v)
 kept d shape {i} {o} {v} {b} {t} fits h = shape.fit_on i o v b t fits h
 
 unit_is : (unit : ℕ) → IsUnit unit → 0 < unit
@@ -106,7 +112,9 @@ shape_of known = shaped known.formed known.no_values known.fitting
 -- ---- values
 
 module _ (d : DescV) where
-  counted_may : {m field c n : ℕ} (v : Values) (value : Option ℕ) → value_of v field ≡ value → FitWidths d v → (w : ℕ) × (value_width d.nodes field ≡ Some w) → option_map (λ x. m * x + c) value ≡ Some n → MayCount d (Counted m field c) n
+  counted_may : {m field c n : ℕ} (v : Values) (value : Option ℕ) → value_of v field ≡ value → FitWidths d v → (w : ℕ)
+      × (value_width d.nodes field ≡ Some w) → option_map (λ x. m * x + c) value ≡ Some n
+      → MayCount d (Counted m field c) n
   counted_may {field = field} v None at widths is counts = absurd (cc)
   counted_may {field = field} v (Some x) at widths is counts =
       may_counted is.0 x is.1 (widths.fit field x is.0 at is.1) (cc)

@@ -41,7 +41,8 @@ module _ (d : DescV) where
   pub parts_of_kind : (n m : Node) (known : List NodeSets) → n ≡ m → AreKnown d known (parts_of n) → AreKnown d known (parts_of m)
   parts_of_kind n m known same are = subst (λ k. AreKnown d known (parts_of k)) same are
 
-  pub part_of_kind : (n m : Node) (part : ℕ) (known : List NodeSets) → n ≡ m → slice_get (parts_of m) 0 ≡ Some part → AreKnown d known (parts_of n) → IsKnown d known part
+  pub part_of_kind : (n m : Node) (part : ℕ) (known : List NodeSets) → n ≡ m → slice_get (parts_of m) 0 ≡ Some part
+      → AreKnown d known (parts_of n) → IsKnown d known part
   part_of_kind n m part known same at are = parts_of_kind n m known same are 0 part at
 
   pub of_kind : (n m : Node) (s : NodeSets) → n ≡ m → NodeSetsAre d m s → NodeSetsAre d n s

@@ -19,7 +19,9 @@ use Rattle.csn_look.specs.Ends.{InEnds, NodeEnds, PartsEnd, LeadEnd, ends_at, en
 use Rattle.csn_look.specs.Starts.{InStart, NodeStarts, PartsStart, starts_at, starts_lits, starts_spare, starts_pad, starts_rest}
 use Rattle.csn_look.specs.Keys.{InKeys, NodeKeys, PartsKeys, keys_at, keys_lits, keys_spare, keys_pad, keys_null, keys_rest, parts_none}
 use Rattle.csn_look.proofs.Meaning.EmptyKeys.{cut_empty, empty_cut, one_is_some}
-use Rattle.csn_look.proofs.Sets.Telling.{AnyOf, ChoiceSetsAre, LeadSetsAre, NoBits, Nothing, PartsSetsAre, all_lengths, all_octets, both, falsity, no_lengths, no_octets, one_length, retell, some_word, true_is_not, truth, zero_length}
+use Rattle.csn_look.proofs.Sets.Telling.{AnyOf, ChoiceSetsAre, LeadSetsAre, NoBits, Nothing, PartsSetsAre}
+use Rattle.csn_look.proofs.Sets.Telling.{all_lengths, all_octets, both, falsity, no_lengths, no_octets, one_length}
+use Rattle.csn_look.proofs.Sets.Telling.{retell, some_word, true_is_not, truth, zero_length}
 
 module _ (d : DescV) where
   -- ---- the node with a number
@@ -121,7 +123,9 @@ module _ (d : DescV) where
   spare_start : {s : Symbol} {o bit : ℕ} → NodeStarts d (Spare s) o bit → IsSpare d.reading s o (bit ∷ [])
   spare_start (starts_spare h) = h
 
-  pub spare_sets : (symbol : Symbol) (s : NodeSets) → s.nullable ≡ false → s.whole_empty ≡ false → s.cut_empty ≡ false → s.lengths ≡ set.insert set.empty 1 → OctetsAre s.zero (λ o. IsSpare d.reading symbol o (0 ∷ [])) → OctetsAre s.one (λ o. IsSpare d.reading symbol o (1 ∷ [])) → NodeSetsAre d (Spare symbol) s
+  pub spare_sets : (symbol : Symbol) (s : NodeSets) → s.nullable ≡ false → s.whole_empty ≡ false → s.cut_empty ≡ false
+      → s.lengths ≡ set.insert set.empty 1 → OctetsAre s.zero (λ o. IsSpare d.reading symbol o (0 ∷ []))
+      → OctetsAre s.one (λ o. IsSpare d.reading symbol o (1 ∷ [])) → NodeSetsAre d (Spare symbol) s
   spare_sets symbol s n w c l z e =
       record {
         nullable = falsity n (λ h. elim h [ ]);
@@ -141,7 +145,9 @@ module _ (d : DescV) where
   pad_start : {o bit : ℕ} → NodeStarts d Pad o bit → IsSpare d.reading Low o (bit ∷ [])
   pad_start (starts_pad h) = h
 
-  pub pad_sets : (s : NodeSets) → s.nullable ≡ false → s.whole_empty ≡ false → s.cut_empty ≡ false → ((o : ℕ) → o ≤ 7 → Has s.lengths o) → OctetsAre s.zero (λ o. IsSpare d.reading Low o (0 ∷ [])) → OctetsAre s.one (λ o. IsSpare d.reading Low o (1 ∷ [])) → NodeSetsAre d Pad s
+  pub pad_sets : (s : NodeSets) → s.nullable ≡ false → s.whole_empty ≡ false → s.cut_empty ≡ false
+      → ((o : ℕ) → o ≤ 7 → Has s.lengths o) → OctetsAre s.zero (λ o. IsSpare d.reading Low o (0 ∷ []))
+      → OctetsAre s.one (λ o. IsSpare d.reading Low o (1 ∷ [])) → NodeSetsAre d Pad s
   pad_sets s n w c l z e =
       record {
         nullable = falsity n (λ h. elim h [ ]);
@@ -158,7 +164,9 @@ module _ (d : DescV) where
   rest_end : {o p : ℕ} → NodeEnds d Rest o p → p < 8
   rest_end (ends_rest e) = e
 
-  pub rest_sets : (s : NodeSets) → s.nullable ≡ true → s.whole_empty ≡ false → s.cut_empty ≡ true → ((o : ℕ) → o ≤ 7 → Has s.lengths o) → ((o : ℕ) → o ≤ 7 → Has s.zero o) → ((o : ℕ) → o ≤ 7 → Has s.one o) → NodeSetsAre d Rest s
+  pub rest_sets : (s : NodeSets) → s.nullable ≡ true → s.whole_empty ≡ false → s.cut_empty ≡ true
+      → ((o : ℕ) → o ≤ 7 → Has s.lengths o) → ((o : ℕ) → o ≤ 7 → Has s.zero o) → ((o : ℕ) → o ≤ 7 → Has s.one o)
+      → NodeSetsAre d Rest s
   rest_sets s n w c l z e =
       record {
         nullable = truth n nullable_rest;
@@ -183,13 +191,17 @@ module _ (d : DescV) where
   no_word [] e = refl
   no_word (s ∷ run) e = absurd (omega arith)
 
-  pub lits_sets : (run : List Symbol) (s : NodeSets) → s.nullable ≡ false → (IsTrue s.whole_empty ↔ (length run ≡ 0)) → s.cut_empty ≡ false → s.lengths ≡ set.insert set.empty (length run % 8) → OctetsAre s.zero (λ o. NodeStarts d (Lits run) o 0) → OctetsAre s.one (λ o. NodeStarts d (Lits run) o 1) → NodeSetsAre d (Lits run) s
+  pub lits_sets : (run : List Symbol) (s : NodeSets) → s.nullable ≡ false → (IsTrue s.whole_empty ↔ (length run ≡ 0))
+      → s.cut_empty ≡ false → s.lengths ≡ set.insert set.empty (length run % 8)
+      → OctetsAre s.zero (λ o. NodeStarts d (Lits run) o 0) → OctetsAre s.one (λ o. NodeStarts d (Lits run) o 1)
+      → NodeSetsAre d (Lits run) s
   lits_sets run s n w c l z e =
       record {
         nullable = falsity n (λ h. elim h [ ]);
         whole_empty = both w ((λ h. keys_lits (empty_cut (spelled run 0) (no_word run h) refl)), (λ h. (lits_key h refl).0));
         cut_empty = falsity c (λ h. true_is_not ((lits_key h refl).1));
-        lengths = λ o p small. both (one_length s.lengths (length run % 8) (omega arith) l o p small) ((λ h. ends_lits (h ∙ sum_of o (length run))), (λ h. lits_end h ∙ sym (sum_of o (length run))));
+        lengths = λ o p small. both (one_length s.lengths (length run % 8) (omega arith) l o p small)
+            ((λ h. ends_lits (h ∙ sum_of o (length run))), (λ h. lits_end h ∙ sym (sum_of o (length run))));
         zero = z;
         one = e;
       }
@@ -200,11 +212,14 @@ module _ (d : DescV) where
   lits_start : {s : Symbol} {run : List Symbol} {o bit : ℕ} → NodeStarts d (Lits (s ∷ run)) o bit → bit ≡ symbol_bit s o
   lits_start (starts_lits e) = e
 
-  pub no_lits_start : (run : List Symbol) (s : set.FinSet nat_cmp) (bit : ℕ) → length run ≡ 0 → s ≡ set.empty → OctetsAre s (λ o. NodeStarts d (Lits run) o bit)
+  pub no_lits_start : (run : List Symbol) (s : set.FinSet nat_cmp) (bit : ℕ) → length run ≡ 0 → s ≡ set.empty
+      → OctetsAre s (λ o. NodeStarts d (Lits run) o bit)
   no_lits_start [] s bit e none = no_octets s (λ o. NodeStarts d (Lits []) o bit) none (λ o h. elim h [ ])
   no_lits_start (t ∷ run) s bit e none = absurd (omega arith)
 
-  pub some_lits_start : (run : List Symbol) (t : Symbol) (s : set.FinSet nat_cmp) (bit : ℕ) → slice_get run 0 ≡ Some t → OctetsAre s (λ o. symbol_bit t o ≡ bit) → OctetsAre s (λ o. NodeStarts d (Lits run) o bit)
+  pub some_lits_start : (run : List Symbol) (t : Symbol) (s : set.FinSet nat_cmp) (bit : ℕ)
+      → slice_get run 0 ≡ Some t → OctetsAre s (λ o. symbol_bit t o ≡ bit)
+      → OctetsAre s (λ o. NodeStarts d (Lits run) o bit)
   some_lits_start [] t s bit at are = cc
   some_lits_start (u ∷ run) t s bit at are =
       let same : u ≡ t = cc in

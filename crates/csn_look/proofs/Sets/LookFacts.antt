@@ -31,7 +31,9 @@ put_first n z o at =
 -- what has each sign
 signs_first :
     (n z o : Bool) (at : SignsV)
-    → (has_sign (put_first n z o at) Zero ≡ (z || (n && at.zero))) × (has_sign (put_first n z o at) One ≡ (o || (n && at.one))) × (has_sign (put_first n z o at) End ≡ (n && at.end))
+    → (has_sign (put_first n z o at) Zero ≡ (z || (n && at.zero)))
+    × (has_sign (put_first n z o at) One ≡ (o || (n && at.one)))
+    × (has_sign (put_first n z o at) End ≡ (n && at.end))
 signs_first true true true at = (refl, refl, refl)
 signs_first true true false at = (refl, refl, refl)
 signs_first true false true at = (refl, refl, refl)
@@ -52,7 +54,8 @@ one_sign One End e = cc
 one_sign End Zero e = cc
 one_sign End One e = cc
 
-pub follow_has : (follow : List SignsV) (o : ℕ) (at : SignsV) (sign : Sign) → slice_get follow o ≡ Some at → IsTrue (has_sign at sign) ↔ FollowHas follow o (bit_of_sign sign)
+pub follow_has : (follow : List SignsV) (o : ℕ) (at : SignsV) (sign : Sign) → slice_get follow o ≡ Some at
+    → IsTrue (has_sign at sign) ↔ FollowHas follow o (bit_of_sign sign)
 follow_has follow o at sign e = (
   (λ h. (sign, refl, subst (λ s. IsSomeAnd s (λ signs. IsTrue (has_sign signs sign))) (sym e) h)),
   (λ (s, same, h).
@@ -93,7 +96,8 @@ module _ (d : DescV) where
   pub firm_is : (i : ℕ) (sets : NodeSets) → SetsAre d i sets → IsTrue (not ((sets.nullable || sets.whole_empty) || sets.cut_empty)) ↔ IsFirm d MOST_WORD i
   firm_is i sets t = denied ((sets.nullable || sets.whole_empty) || sets.cut_empty) (IsNotFirm d MOST_WORD i) (not_firm i sets t)
 
-  pub ends_are : (i octet : ℕ) (sets : NodeSets) (s : set.FinSet nat_cmp) → SetsAre d i sets → octet ≤ 7 → OctetsAre s (λ p. Has sets.lengths ((p + 8 - octet) % 8)) → OctetsAre s (InEnds d i octet)
+  pub ends_are : (i octet : ℕ) (sets : NodeSets) (s : set.FinSet nat_cmp) → SetsAre d i sets → octet ≤ 7
+      → OctetsAre s (λ p. Has sets.lengths ((p + 8 - octet) % 8)) → OctetsAre s (InEnds d i octet)
   ends_are i octet sets s t low turned p small = (
     (λ h. (t.lengths octet p low).0 (record { length = (p + 8 - octet) % 8; small = omega arith; has_length = (turned p small).0 h; is = omega arith })),
     (λ h.
@@ -104,10 +108,16 @@ module _ (d : DescV) where
         (turned p small).1 (subst (λ q. Has sets.lengths q) same r.has_length)),
   )
 
-  pub first_is : (i octet : ℕ) (sets : NodeSets) (follow : List SignsV) (at : SignsV) → SetsAre d i sets → octet ≤ 7 → slice_get follow octet ≡ Some at → SignsAre (put_first sets.nullable (set.contains sets.zero octet) (set.contains sets.one octet) at) (InFirst d (FollowHas follow) i octet)
+  pub first_is : (i octet : ℕ) (sets : NodeSets) (follow : List SignsV) (at : SignsV) → SetsAre d i sets → octet ≤ 7
+      → slice_get follow octet ≡ Some at
+      → SignsAre (put_first sets.nullable (set.contains sets.zero octet) (set.contains sets.one octet) at)
+      (InFirst d (FollowHas follow) i octet)
   first_is i octet sets follow at t low e Zero =
-      is_so (signs_first sets.nullable (set.contains sets.zero octet) (set.contains sets.one octet) at).0 (either (t.zero octet low) (together t.nullable (follow_has follow octet at Zero e)))
+      is_so (signs_first sets.nullable (set.contains sets.zero octet) (set.contains sets.one octet) at).0
+      (either (t.zero octet low) (together t.nullable (follow_has follow octet at Zero e)))
   first_is i octet sets follow at t low e One =
-      is_so (signs_first sets.nullable (set.contains sets.zero octet) (set.contains sets.one octet) at).1 (either (t.one octet low) (together t.nullable (follow_has follow octet at One e)))
+      is_so (signs_first sets.nullable (set.contains sets.zero octet) (set.contains sets.one octet) at).1
+      (either (t.one octet low) (together t.nullable (follow_has follow octet at One e)))
   first_is i octet sets follow at t low e End =
-      is_so (signs_first sets.nullable (set.contains sets.zero octet) (set.contains sets.one octet) at).2 (together t.nullable (follow_has follow octet at End e))
+      is_so (signs_first sets.nullable (set.contains sets.zero octet) (set.contains sets.one octet) at).2
+      (together t.nullable (follow_has follow octet at End e))

@@ -8,7 +8,8 @@ use Rattle.csn_look.specs.KeyLists.{IsKeyList}
 use Rattle.csn_look.specs.LookKeys.{ListsKeys}
 use Rattle.csn_look.proofs.Tables.KeyWords.{key_word}
 
-pub lists_keys : (d : DescV) (i o : ℕ) (marks : List ℕ) (keys : List Key) → KeysAre marks (InKeys d 12 i o) → IsKeyList marks keys → ListsKeys keys (InKeys d 12 i o)
+pub lists_keys : (d : DescV) (i o : ℕ) (marks : List ℕ) (keys : List Key) → KeysAre marks (InKeys d 12 i o)
+    → IsKeyList marks keys → ListsKeys keys (InKeys d 12 i o)
 lists_keys d i o marks keys are list = record {
   exact = λ key. (
     (λ there.

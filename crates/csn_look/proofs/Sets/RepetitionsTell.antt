@@ -87,14 +87,17 @@ module _ (d : DescV) where
   no_many_whole : {i o : ℕ} {x : List ℕ} {mark : Bool} → NodeKeys d MOST_WORD (Many i) o x mark → mark ≡ true → ⊥
   no_many_whole (keys_many e m) h = cc
 
-  pub many_sets : (i : ℕ) (once s : NodeSets) → SetsAre d i once → s.nullable ≡ true → s.whole_empty ≡ false → s.cut_empty ≡ true → OctetsAre s.lengths (λ r. (n : ℕ) × SumOf once.lengths n r) → s.zero ≡ once.zero → s.one ≡ once.one → NodeSetsAre d (Many i) s
+  pub many_sets : (i : ℕ) (once s : NodeSets) → SetsAre d i once → s.nullable ≡ true → s.whole_empty ≡ false
+      → s.cut_empty ≡ true → OctetsAre s.lengths (λ r. (n : ℕ) × SumOf once.lengths n r)
+      → s.zero ≡ once.zero → s.one ≡ once.one → NodeSetsAre d (Many i) s
   many_sets i once s t n w c l z e =
       record {
         nullable = truth n nullable_many;
         whole_empty = falsity w (λ h. no_many_whole h refl);
         cut_empty = truth c (keys_many refl refl);
         lengths = λ o p small. both (many_lengths once.lengths s.lengths i t.lengths l o p small) ((λ h. ends_many h), (λ h. many_ends h));
-        zero = subst (λ q. OctetsAre q (λ o. NodeStarts d (Many i) o 0)) (sym z) (λ o small. both (t.zero o small) ((λ h. starts_many h), (λ h. many_start h)));
+        zero = subst (λ q. OctetsAre q (λ o. NodeStarts d (Many i) o 0)) (sym z)
+            (λ o small. both (t.zero o small) ((λ h. starts_many h), (λ h. many_start h)));
         one = subst (λ q. OctetsAre q (λ o. NodeStarts d (Many i) o 1)) (sym e) (λ o small. both (t.one o small) ((λ h. starts_many h), (λ h. many_start h)));
       }
 
@@ -114,14 +117,16 @@ module _ (d : DescV) where
   at_none i o w mark begins none h = subst (λ q. InKeys d MOST_WORD i q [] mark) begins (subst (λ v. InKeys d MOST_WORD i o v mark) none h)
 
   -- an empty key of a repetition is one of its part, unless there is none
-  times_whole_empty : {n i o : ℕ} {x : List ℕ} {mark : Bool} → TimesKeys d MOST_WORD n i o x mark → o ≡ 0 → x ≡ [] → mark ≡ true → (InKeys d MOST_WORD i 0 [] true ⊎ (n ≡ 0))
+  times_whole_empty : {n i o : ℕ} {x : List ℕ} {mark : Bool} → TimesKeys d MOST_WORD n i o x mark → o ≡ 0 → x ≡ []
+      → mark ≡ true → (InKeys d MOST_WORD i 0 [] true ⊎ (n ≡ 0))
   times_whole_empty (times_none e f m) begins none is = inr e
   times_whole_empty (times_cut m e h f) begins none is = absurd (cc)
   times_whole_empty {i = i} {o = o} (times_whole m e w1 w2 rest h hs c) begins none is =
       let words = no_words w1 w2 (cut_empty some_word c none).word in
       inl (at_none i o w1 true begins words.0 h)
 
-  times_cut_empty : {n i o : ℕ} {x : List ℕ} {mark : Bool} → TimesKeys d MOST_WORD n i o x mark → o ≡ 0 → x ≡ [] → mark ≡ false → (InKeys d MOST_WORD i 0 [] false × (0 < n))
+  times_cut_empty : {n i o : ℕ} {x : List ℕ} {mark : Bool} → TimesKeys d MOST_WORD n i o x mark → o ≡ 0 → x ≡ []
+      → mark ≡ false → (InKeys d MOST_WORD i 0 [] false × (0 < n))
   times_cut_empty (times_none e f m) begins none is = absurd (cc)
   times_cut_empty {n = n} {i = i} {o = o} {x = x} (times_cut m e h f) begins none is = (at_none i o x false begins none h, omega arith)
   times_cut_empty {n = n} {i = i} {o = o} (times_whole m e w1 w2 rest h hs c) begins none is =
@@ -139,7 +144,10 @@ module _ (d : DescV) where
   cut_times zero i h k = absurd (omega arith)
   cut_times (suc m) i h k = times_cut m refl k refl
 
-  pub times_sets : (k i : ℕ) (once s : NodeSets) → SetsAre d i once → s.nullable ≡ once.nullable → (IsTrue s.whole_empty ↔ (IsTrue once.whole_empty ⊎ (k ≡ 0))) → (IsTrue s.cut_empty ↔ (IsTrue once.cut_empty × (0 < k))) → OctetsAre s.lengths (SumOf once.lengths k) → s.zero ≡ once.zero → s.one ≡ once.one → NodeSetsAre d (Times (Fixed k) i) s
+  pub times_sets : (k i : ℕ) (once s : NodeSets) → SetsAre d i once → s.nullable ≡ once.nullable
+      → (IsTrue s.whole_empty ↔ (IsTrue once.whole_empty ⊎ (k ≡ 0)))
+      → (IsTrue s.cut_empty ↔ (IsTrue once.cut_empty × (0 < k))) → OctetsAre s.lengths (SumOf once.lengths k)
+      → s.zero ≡ once.zero → s.one ≡ once.one → NodeSetsAre d (Times (Fixed k) i) s
   times_sets k i once s t n w c l z e =
       record {
         nullable = both (is_so n t.nullable) ((λ h. nullable_times h), (λ h. times_null h));
@@ -152,8 +160,10 @@ module _ (d : DescV) where
           (λ h. let p = times_cut_empty (times_key h) refl refl refl in c.1 (t.cut_empty.1 p.0, p.1)),
         );
         lengths = λ o p small. both (times_lengths once.lengths s.lengths i k t.lengths l o p small) ((λ h. ends_times h), (λ h. times_ends h));
-        zero = subst (λ q. OctetsAre q (λ o. NodeStarts d (Times (Fixed k) i) o 0)) (sym z) (λ o small. both (t.zero o small) ((λ h. starts_times h), (λ h. times_start h)));
-        one = subst (λ q. OctetsAre q (λ o. NodeStarts d (Times (Fixed k) i) o 1)) (sym e) (λ o small. both (t.one o small) ((λ h. starts_times h), (λ h. times_start h)));
+        zero = subst (λ q. OctetsAre q (λ o. NodeStarts d (Times (Fixed k) i) o 0)) (sym z)
+            (λ o small. both (t.zero o small) ((λ h. starts_times h), (λ h. times_start h)));
+        one = subst (λ q. OctetsAre q (λ o. NodeStarts d (Times (Fixed k) i) o 1)) (sym e)
+            (λ o small. both (t.one o small) ((λ h. starts_times h), (λ h. times_start h)));
       }
 
   counted_null : {m f c i : ℕ} → NodeNullable d (Times (Counted m f c) i) → (Nullable d i ⊎ (c ≡ 0))
@@ -166,7 +176,10 @@ module _ (d : DescV) where
   no_counted_whole : {m f c i o : ℕ} {x : List ℕ} {mark : Bool} → NodeKeys d MOST_WORD (Times (Counted m f c) i) o x mark → mark ≡ true → ⊥
   no_counted_whole (keys_counted_times e k) h = cc
 
-  pub counted_sets : (m f c i : ℕ) (once s : NodeSets) → SetsAre d i once → (IsTrue s.nullable ↔ (IsTrue once.nullable ⊎ (c ≡ 0))) → s.whole_empty ≡ false → s.cut_empty ≡ true → OctetsAre s.lengths (λ r. (n : ℕ) × SumOf once.lengths n r) → s.zero ≡ once.zero → s.one ≡ once.one → NodeSetsAre d (Times (Counted m f c) i) s
+  pub counted_sets : (m f c i : ℕ) (once s : NodeSets)
+      → SetsAre d i once → (IsTrue s.nullable ↔ (IsTrue once.nullable ⊎ (c ≡ 0)))
+      → s.whole_empty ≡ false → s.cut_empty ≡ true → OctetsAre s.lengths (λ r. (n : ℕ) × SumOf once.lengths n r)
+      → s.zero ≡ once.zero → s.one ≡ once.one → NodeSetsAre d (Times (Counted m f c) i) s
   counted_sets m f c i once s t n w k l z e =
       record {
         nullable = (
@@ -176,12 +189,20 @@ module _ (d : DescV) where
         whole_empty = falsity w (λ h. no_counted_whole h refl);
         cut_empty = truth k (keys_counted_times refl refl);
         lengths = λ o p small. both (many_lengths once.lengths s.lengths i t.lengths l o p small) ((λ h. ends_counted h), (λ h. counted_ends h));
-        zero = subst (λ q. OctetsAre q (λ o. NodeStarts d (Times (Counted m f c) i) o 0)) (sym z) (λ o small. both (t.zero o small) ((λ h. starts_times h), (λ h. times_start h)));
-        one = subst (λ q. OctetsAre q (λ o. NodeStarts d (Times (Counted m f c) i) o 1)) (sym e) (λ o small. both (t.one o small) ((λ h. starts_times h), (λ h. times_start h)));
+        zero = subst (λ q. OctetsAre q (λ o. NodeStarts d (Times (Counted m f c) i) o 0)) (sym z)
+            (λ o small. both (t.zero o small) ((λ h. starts_times h), (λ h. times_start h)));
+        one = subst (λ q. OctetsAre q (λ o. NodeStarts d (Times (Counted m f c) i) o 1)) (sym e)
+            (λ o small. both (t.one o small) ((λ h. starts_times h), (λ h. times_start h)));
       }
 
-  pub fixed_times : (count : Count) (k i : ℕ) (once s : NodeSets) → count ≡ Fixed k → SetsAre d i once → s.nullable ≡ once.nullable → (IsTrue s.whole_empty ↔ (IsTrue once.whole_empty ⊎ (k ≡ 0))) → (IsTrue s.cut_empty ↔ (IsTrue once.cut_empty × (0 < k))) → OctetsAre s.lengths (SumOf once.lengths k) → s.zero ≡ once.zero → s.one ≡ once.one → NodeSetsAre d (Times count i) s
+  pub fixed_times : (count : Count) (k i : ℕ) (once s : NodeSets) → count ≡ Fixed k → SetsAre d i once
+      → s.nullable ≡ once.nullable → (IsTrue s.whole_empty ↔ (IsTrue once.whole_empty ⊎ (k ≡ 0)))
+      → (IsTrue s.cut_empty ↔ (IsTrue once.cut_empty × (0 < k))) → OctetsAre s.lengths (SumOf once.lengths k)
+      → s.zero ≡ once.zero → s.one ≡ once.one → NodeSetsAre d (Times count i) s
   fixed_times count k i once s is t n w c l z e = subst (λ q. NodeSetsAre d (Times q i) s) (sym is) (times_sets k i once s t n w c l z e)
 
-  pub counted_times : (count : Count) (m f c i : ℕ) (once s : NodeSets) → count ≡ Counted m f c → SetsAre d i once → (IsTrue s.nullable ↔ (IsTrue once.nullable ⊎ (c ≡ 0))) → s.whole_empty ≡ false → s.cut_empty ≡ true → OctetsAre s.lengths (λ r. (n : ℕ) × SumOf once.lengths n r) → s.zero ≡ once.zero → s.one ≡ once.one → NodeSetsAre d (Times count i) s
+  pub counted_times : (count : Count) (m f c i : ℕ) (once s : NodeSets) → count ≡ Counted m f c → SetsAre d i once
+      → (IsTrue s.nullable ↔ (IsTrue once.nullable ⊎ (c ≡ 0))) → s.whole_empty ≡ false → s.cut_empty ≡ true
+      → OctetsAre s.lengths (λ r. (n : ℕ) × SumOf once.lengths n r) → s.zero ≡ once.zero → s.one ≡ once.one
+      → NodeSetsAre d (Times count i) s
   counted_times count m f c i once s is t n w k l z e = subst (λ q. NodeSetsAre d (Times q i) s) (sym is) (counted_sets m f c i once s t n w k l z e)

@@ -1,5 +1,6 @@
 -- Facts that hold both ways, sets of octet positions and lengths, and what sets of parts tell.
-use Rattle.std.proofs.Common.{◌≡◌, ℕ, zero, suc, ◌+◌, ◌-◌, ◌*◌, ◌%◌, ◌^◌, ◌<◌, ◌≤◌, Bool, true, false, ◌&&◌, ◌||◌, ◌⊎◌, ◌↔◌, nat_eq, not, List, [], ◌∷◌, length, refl, sym, ap, ◌∙◌, arith, inl, inr, Some}
+use Rattle.std.proofs.Common.{◌≡◌, ℕ, zero, suc, ◌+◌, ◌-◌, ◌*◌, ◌%◌, ◌^◌, ◌<◌, ◌≤◌, Bool, true, false, ◌&&◌, ◌||◌}
+use Rattle.std.proofs.Common.{◌⊎◌, ◌↔◌, nat_eq, not, List, [], ◌∷◌, length, refl, sym, ap, ◌∙◌, arith, inl, inr, Some}
 use Rattle.std.specs.Prelude.{slice_get, IsTrue}
 use Rattle.std.specs.Ordering.{nat_cmp}
 use Rattle.std.specs.FinSet as set
@@ -123,7 +124,9 @@ all_lengths s all o p small = (
 )
 
 -- a set, and what lies before another one where there may be no bits
-pub behind_too : (own earlier u : set.FinSet nat_cmp) (nullable : Bool) (L : ℕ → Type 0) → nullable ≡ true → u ≡ set.union own earlier → OctetsAre earlier L → OctetsAre u (λ o. Has own o ⊎ (IsTrue nullable × L o))
+pub behind_too : (own earlier u : set.FinSet nat_cmp) (nullable : Bool) (L : ℕ → Type 0)
+    → nullable ≡ true → u ≡ set.union own earlier → OctetsAre earlier L
+    → OctetsAre u (λ o. Has own o ⊎ (IsTrue nullable × L o))
 behind_too own earlier u nullable L n e are o small = (
   (λ h. elim ((has_union own earlier o).0 (ap (λ v. set.contains v o) (sym e) ∙ h)) [
     | inl a ↦ inl a
@@ -133,7 +136,8 @@ behind_too own earlier u nullable L n e are o small = (
 )
 
 -- one value more
-pub value_more : (f : ℕ → ℕ) (k : ℕ) (s t : set.FinSet nat_cmp) → OctetsAre s (λ r. (v : ℕ) × (v < k) × (r ≡ f v)) → t ≡ set.insert s (f k) → OctetsAre t (λ r. (v : ℕ) × (v < k + 1) × (r ≡ f v))
+pub value_more : (f : ℕ → ℕ) (k : ℕ) (s t : set.FinSet nat_cmp) → OctetsAre s (λ r. (v : ℕ) × (v < k) × (r ≡ f v))
+    → t ≡ set.insert s (f k) → OctetsAre t (λ r. (v : ℕ) × (v < k + 1) × (r ≡ f v))
 value_more f k s t are e o small = (
   (λ h. elim ((has_insert s (f k) o).0 (ap (λ u. set.contains u o) (sym e) ∙ h)) [
     | inl same ↦ (k, omega arith, same)
@@ -178,7 +182,9 @@ high_power w h = let p : 2 ^ 3 ≤ 2 ^ w = pow_mono h in omega arith
 
 -- ---- one fact for another
 
-pub retell : {sets : NodeSets} {N N' : Type 0} {E E' S S' : ℕ → ℕ → Type 0} {K K' : Bool → Type 0} → Tell sets N E S K → (N ↔ N') → ((o p : ℕ) → o ≤ 7 → E o p ↔ E' o p) → ((o bit : ℕ) → S o bit ↔ S' o bit) → ((mark : Bool) → K mark ↔ K' mark) → Tell sets N' E' S' K'
+pub retell : {sets : NodeSets} {N N' : Type 0} {E E' S S' : ℕ → ℕ → Type 0} {K K' : Bool → Type 0}
+    → Tell sets N E S K → (N ↔ N') → ((o p : ℕ) → o ≤ 7 → E o p ↔ E' o p) → ((o bit : ℕ) → S o bit ↔ S' o bit)
+    → ((mark : Bool) → K mark ↔ K' mark) → Tell sets N' E' S' K'
 retell t n e s k =
     record {
       nullable = both t.nullable n;

@@ -1,5 +1,6 @@
 -- What the sets tell that are made for fields and windows, which are counted in units of bits.
-use Rattle.std.proofs.Common.{◌≡◌, ℕ, ◌+◌, ◌*◌, ◌/◌, ◌%◌, ◌^◌, ◌<◌, ◌≤◌, Bool, true, false, ◌↔◌, List, [], length, refl, sym, ap, ◌∙◌, subst, arith, Option, Some, None}
+use Rattle.std.proofs.Common.{◌≡◌, ℕ, ◌+◌, ◌*◌, ◌/◌, ◌%◌, ◌^◌, ◌<◌, ◌≤◌, Bool, true, false, ◌↔◌, List, [], length}
+use Rattle.std.proofs.Common.{refl, sym, ap, ◌∙◌, subst, arith, Option, Some, None}
 use Rattle.std.specs.Prelude.{IsTrue}
 use Rattle.std.specs.Ordering.{nat_cmp}
 use Rattle.std.specs.FinSet as set
@@ -31,7 +32,8 @@ module _ (d : DescV) where
   unit_sum : (o k : ℕ) → (o + k % 8) % 8 ≡ (o + k) % 8
   unit_sum o k = omega arith
 
-  unit_lengths : (unit : ℕ) (count : Count) (s : set.FinSet nat_cmp) → UnitsAre unit count s → LengthsAre s (λ o p. (n : ℕ) × MayCount d count n × (p ≡ (o + unit * n) % 8))
+  unit_lengths : (unit : ℕ) (count : Count) (s : set.FinSet nat_cmp)
+      → UnitsAre unit count s → LengthsAre s (λ o p. (n : ℕ) × MayCount d count n × (p ≡ (o + unit * n) % 8))
   unit_lengths unit count s are o p small = (
     (λ h. let q = (are h.length h.small).0 h.has_length in (q.0, q.1, h.is ∙ ap (λ r. (o + r) % 8) q.2 ∙ unit_sum o (unit * q.0))),
     (λ (n, may, e).
@@ -54,7 +56,10 @@ module _ (d : DescV) where
   field_null : {unit m f c : ℕ} → NodeNullable d (Field unit (Counted m f c)) → c ≡ 0
   field_null (nullable_field e) = e
 
-  pub field_sets : (unit : ℕ) (count : Count) (s : NodeSets) → (IsTrue s.nullable ↔ MayBeNone count) → (IsTrue s.whole_empty ↔ IsFixedAt (λ n. unit * n ≡ 0) count) → (IsTrue s.cut_empty ↔ IsCounted count) → UnitsAre unit count s.lengths → ((o : ℕ) → o ≤ 7 → Has s.zero o) → ((o : ℕ) → o ≤ 7 → Has s.one o) → NodeSetsAre d (Field unit count) s
+  pub field_sets : (unit : ℕ) (count : Count) (s : NodeSets) → (IsTrue s.nullable ↔ MayBeNone count)
+      → (IsTrue s.whole_empty ↔ IsFixedAt (λ n. unit * n ≡ 0) count) → (IsTrue s.cut_empty ↔ IsCounted count)
+      → UnitsAre unit count s.lengths → ((o : ℕ) → o ≤ 7 → Has s.zero o) → ((o : ℕ) → o ≤ 7 → Has s.one o)
+      → NodeSetsAre d (Field unit count) s
   field_sets unit (Fixed k) s n w c l z e =
       record {
         nullable = both n ((λ h. absurd h), (λ h. elim h [ ]));
@@ -87,15 +92,20 @@ module _ (d : DescV) where
   window_key : {unit i o : ℕ} {count : Count} {x : List ℕ} {mark : Bool} → NodeKeys d MOST_WORD (Window unit count i) o x mark → mark ≡ false
   window_key (keys_window e m) = m
 
-  pub window_sets : (unit : ℕ) (count : Count) (i : ℕ) (inside s : NodeSets) → SetsAre d i inside → (IsTrue s.nullable ↔ (IsTrue inside.nullable × MayBeNone count)) → s.whole_empty ≡ false → s.cut_empty ≡ true → UnitsAre unit count s.lengths → s.zero ≡ inside.zero → s.one ≡ inside.one → NodeSetsAre d (Window unit count i) s
+  pub window_sets : (unit : ℕ) (count : Count) (i : ℕ) (inside s : NodeSets)
+      → SetsAre d i inside → (IsTrue s.nullable ↔ (IsTrue inside.nullable × MayBeNone count))
+      → s.whole_empty ≡ false → s.cut_empty ≡ true → UnitsAre unit count s.lengths → s.zero ≡ inside.zero
+      → s.one ≡ inside.one → NodeSetsAre d (Window unit count i) s
   window_sets unit count i inside s t n w c l z e =
       record {
         nullable = both n (both ((λ h. (t.nullable.0 h.0, h.1)), (λ h. (t.nullable.1 h.0, h.1))) (window_nullable unit count i));
         whole_empty = falsity w (λ h. true_is_not (sym (window_key h)));
         cut_empty = truth c (keys_window refl refl);
         lengths = λ o p small. both (unit_lengths unit count s.lengths l o p small) ((λ h. ends_window h.0 h.1 h.2), (λ h. window_end h));
-        zero = subst (λ q. OctetsAre q (λ o. NodeStarts d (Window unit count i) o 0)) (sym z) (λ o small. both (t.zero o small) ((λ h. starts_window h), (λ h. window_start h)));
-        one = subst (λ q. OctetsAre q (λ o. NodeStarts d (Window unit count i) o 1)) (sym e) (λ o small. both (t.one o small) ((λ h. starts_window h), (λ h. window_start h)));
+        zero = subst (λ q. OctetsAre q (λ o. NodeStarts d (Window unit count i) o 0)) (sym z)
+            (λ o small. both (t.zero o small) ((λ h. starts_window h), (λ h. window_start h)));
+        one = subst (λ q. OctetsAre q (λ o. NodeStarts d (Window unit count i) o 1)) (sym e)
+            (λ o small. both (t.one o small) ((λ h. starts_window h), (λ h. window_start h)));
       }
 
   fixed_count : {k n : ℕ} → MayCount d (Fixed k) n → n ≡ k
@@ -110,7 +120,8 @@ module _ (d : DescV) where
   no_value : {m f c n : ℕ} → value_width d.nodes f ≡ None → MayCount d (Counted m f c) n → ⊥
   no_value none (may_counted width value is small e) = let clash : ◌≡◌ {A = Option ℕ} None (Some width) = sym none ∙ is in cc
 
-  pub no_units : (unit m f c : ℕ) (count : Count) (s : set.FinSet nat_cmp) → count ≡ Counted m f c → value_width d.nodes f ≡ None → s ≡ set.empty → UnitsAre unit count s
+  pub no_units : (unit m f c : ℕ) (count : Count) (s : set.FinSet nat_cmp)
+      → count ≡ Counted m f c → value_width d.nodes f ≡ None → s ≡ set.empty → UnitsAre unit count s
   no_units unit m f c count s is none e =
       subst (λ q. UnitsAre unit q s) (sym is)
       (no_octets s (λ r. (n : ℕ) × MayCount d (Counted m f c) n × (r ≡ unit * n % 8)) e (λ o (n, may, h). no_value none may))
@@ -123,11 +134,15 @@ module _ (d : DescV) where
       let parts : value ≡ 8 * (value / 8) + value % 8 = omega arith in
       ap (λ v. unit * (m * v + c) % 8) parts ∙ residue_of unit m c (value / 8) (value % 8)
 
-  counted_value : {m f c n width : ℕ} → value_width d.nodes f ≡ Some width → MayCount d (Counted m f c) n → (value : ℕ) × (value < 2 ^ width) × (n ≡ m * value + c)
+  counted_value : {m f c n width : ℕ} → value_width d.nodes f ≡ Some width → MayCount d (Counted m f c) n
+      → (value : ℕ) × (value < 2 ^ width) × (n ≡ m * value + c)
   counted_value {width = width} at (may_counted w value is small e) =
       let same : w ≡ width = cc in (value, subst (λ q. value < 2 ^ q) same small, e)
 
-  pub valued_units : (unit m f c width values : ℕ) (count : Count) (s : set.FinSet nat_cmp) → count ≡ Counted m f c → value_width d.nodes f ≡ Some width → values ≤ 2 ^ width → ((value : ℕ) → value < 2 ^ width → value % 8 < values) → OctetsAre s (λ r. (value : ℕ) × (value < values) × (r ≡ unit * (m * value + c) % 8)) → UnitsAre unit count s
+  pub valued_units : (unit m f c width values : ℕ) (count : Count) (s : set.FinSet nat_cmp)
+      → count ≡ Counted m f c → value_width d.nodes f ≡ Some width → values ≤ 2 ^ width
+      → ((value : ℕ) → value < 2 ^ width → value % 8 < values)
+      → OctetsAre s (λ r. (value : ℕ) × (value < values) × (r ≡ unit * (m * value + c) % 8)) → UnitsAre unit count s
   valued_units unit m f c width values count s is at few all are =
       subst (λ q. UnitsAre unit q s) (sym is)
       (λ o small. both (are o small) (

@@ -1,5 +1,7 @@
 -- What the marks are that stand in blocks.
-use Rattle.std.proofs.Common.{◌≡◌, ℕ, zero, suc, ◌+◌, ◌-◌, ◌*◌, ◌⊎◌, inl, inr, ◌/◌, ◌%◌, ◌^◌, ◌<◌, ◌≤◌, List, [], ◌∷◌, ◌++◌, take, drop, drop-cons, length, get_or, refl, sym, ap, ◌∙◌, arith, append_assoc, append-nil}
+use Rattle.std.proofs.Common.{◌≡◌, ℕ, zero, suc, ◌+◌, ◌-◌, ◌*◌, ◌⊎◌, inl, inr, ◌/◌, ◌%◌, ◌^◌, ◌<◌, ◌≤◌, List, [], ◌∷◌}
+use Rattle.std.proofs.Common.{◌++◌, take, drop, drop-cons, length, get_or, refl, sym, ap, ◌∙◌, arith, append_assoc}
+use Rattle.std.proofs.Common.{append-nil}
 use Rattle.std.specs.Int.Bits.{bit_or, or_zero_r}
 use Rattle.std.proofs.lemmas.Bool.{cases_lt}
 use Rattle.std.proofs.lemmas.List.{take_all, drop_all}
@@ -19,7 +21,9 @@ long [] blocks = refl
 long (block ∷ index) blocks = omega (arith, long index blocks)
 
 -- a number of the marks stands in a block
-pub read : (index blocks : List ℕ) (at : ℕ) → at < 4 * length index → get_or (laid_out index blocks) at 0 ≡ get_or blocks (4 * get_or index (at / 4) 0 + at % 4) 0
+pub read : (index blocks : List ℕ) (at : ℕ)
+    → at < 4 * length index → get_or (laid_out index blocks) at 0 ≡ get_or blocks
+    (4 * get_or index (at / 4) 0 + at % 4) 0
 read [] blocks at small = absurd (omega arith)
 read (block ∷ index) blocks zero small = ap (λ n. get_or blocks n 0) (omega arith)
 read (block ∷ index) blocks (suc zero) small = refl
@@ -33,10 +37,12 @@ read (block ∷ index) blocks (suc (suc (suc (suc at)))) small =
     ∙ ap (λ n. get_or blocks (4 * get_or (block ∷ index) n 0 + suc (suc (suc (suc at))) % 4) 0) (sym half)
 
 -- four numbers are a block
-pub four_is : (marks : List ℕ) (at a b c d : ℕ) → get_or marks (4 * at) 0 ≡ a → get_or marks (4 * at + 1) 0 ≡ b → get_or marks (4 * at + 2) 0 ≡ c → get_or marks (4 * at + 3) 0 ≡ d → four marks at ≡ a ∷ b ∷ c ∷ d ∷ []
+pub four_is : (marks : List ℕ) (at a b c d : ℕ) → get_or marks (4 * at) 0 ≡ a → get_or marks (4 * at + 1) 0 ≡ b
+    → get_or marks (4 * at + 2) 0 ≡ c → get_or marks (4 * at + 3) 0 ≡ d → four marks at ≡ a ∷ b ∷ c ∷ d ∷ []
 four_is marks at a b c d e f g h = rw (e, f, g, h) refl
 
-read_in : (index blocks : List ℕ) (at k : ℕ) → k < 4 → at < length index → get_or (laid_out index blocks) (4 * at + k) 0 ≡ get_or blocks (4 * get_or index at 0 + k) 0
+read_in : (index blocks : List ℕ) (at k : ℕ) → k < 4 → at < length index → get_or (laid_out index blocks) (4 * at + k)
+    0 ≡ get_or blocks (4 * get_or index at 0 + k) 0
 read_in index blocks at k few small =
     let place : (4 * at + k) / 4 ≡ at = omega arith in
     let left : (4 * at + k) % 4 ≡ k = omega arith in
@@ -66,7 +72,8 @@ block_within (block ∷ index) blocks (suc at) are small = block_within index bl
 -- one block more
 pub laid_out-push : (index blocks : List ℕ) (block : ℕ) → laid_out (index ++ block ∷ []) blocks ≡ laid_out index blocks ++ four blocks block
 laid_out-push [] blocks block = append-nil (four blocks block)
-laid_out-push (first ∷ index) blocks block = ap (λ l. four blocks first ++ l) (laid_out-push index blocks block) ∙ sym (append_assoc (four blocks first) (laid_out index blocks) (four blocks block))
+laid_out-push (first ∷ index) blocks block = ap (λ l. four blocks first ++ l) (laid_out-push index blocks block)
+    ∙ sym (append_assoc (four blocks first) (laid_out index blocks) (four blocks block))
 
 -- what is laid out grows by one block
 pub laid_more :
@@ -83,7 +90,9 @@ laid_more index blocks marks new block at small before is grown =
     ∙ ap (λ l. marks ++ laid_out l blocks) (sym (drop-cons index at 0 small))
     ∙ before
 
-pub laid_all : (index blocks marks : List ℕ) (at : ℕ) → length index ≤ at → marks ++ laid_out (drop at index) blocks ≡ laid_out index blocks → marks ≡ laid_out index blocks
+pub laid_all : (index blocks marks : List ℕ) (at : ℕ)
+    → length index ≤ at → marks ++ laid_out (drop at index) blocks ≡ laid_out index blocks
+    → marks ≡ laid_out index blocks
 laid_all index blocks marks at all before =
     sym (append-nil marks) ∙ ap (λ l. marks ++ laid_out l blocks) (sym (drop_all at index all)) ∙ before
 
@@ -123,7 +132,8 @@ laid_out-front (block ∷ index) blocks back are =
 
 get_or-back : (front back : List ℕ) (at : ℕ) → get_or (front ++ back) (length front + at) 0 ≡ get_or back at 0
 get_or-back [] back at = ap (λ n. get_or back n 0) (omega arith)
-get_or-back (x ∷ front) back at = ap (λ n. get_or (x ∷ front ++ back) n 0) (let e : length (x ∷ front) + at ≡ suc (length front + at) = omega arith in e) ∙ get_or-back front back at
+get_or-back (x ∷ front) back at = ap (λ n. get_or (x ∷ front ++ back) n 0)
+    (let e : length (x ∷ front) + at ≡ suc (length front + at) = omega arith in e) ∙ get_or-back front back at
 
 -- the block behind some others
 pub four-last : (front block : List ℕ) (number : ℕ) → length block ≡ 4 → 4 * number ≡ length front → four (front ++ block) number ≡ block
@@ -148,7 +158,8 @@ four-last front (a ∷ b ∷ c ∷ d ∷ e ∷ block) number size whole = absurd
 -- four numbers more
 take_four_more :
     (marks : List ℕ) (at : ℕ) → suc (suc (suc (suc at))) ≤ length marks
-    → take (suc (suc (suc (suc at)))) marks ≡ take at marks ++ get_or marks at 0 ∷ get_or marks (suc at) 0 ∷ get_or marks (suc (suc at)) 0 ∷ get_or marks (suc (suc (suc at))) 0 ∷ []
+    → take (suc (suc (suc (suc at)))) marks ≡ take at marks ++ get_or marks at 0 ∷ get_or marks (suc at)
+    0 ∷ get_or marks (suc (suc at)) 0 ∷ get_or marks (suc (suc (suc at))) 0 ∷ []
 take_four_more [] at small = absurd (omega arith)
 take_four_more (a ∷ marks) (suc at) small = ap (λ l. a ∷ l) (take_four_more marks at (omega arith))
 take_four_more (a ∷ []) zero small = absurd (omega arith)
@@ -164,12 +175,15 @@ take_four marks at small =
     let three : suc (suc (suc (4 * at))) ≡ 4 * at + 3 = omega arith in
     ap (λ n. take n marks) upto
     ∙ take_four_more marks (4 * at) (omega arith)
-    ∙ ap (λ n. take (4 * at) marks ++ get_or marks (4 * at) 0 ∷ get_or marks n 0 ∷ get_or marks (suc (suc (4 * at))) 0 ∷ get_or marks (suc (suc (suc (4 * at)))) 0 ∷ []) one
-    ∙ ap (λ n. take (4 * at) marks ++ get_or marks (4 * at) 0 ∷ get_or marks (4 * at + 1) 0 ∷ get_or marks n 0 ∷ get_or marks (suc (suc (suc (4 * at)))) 0 ∷ []) two
+    ∙ ap (λ n. take (4 * at) marks ++ get_or marks (4 * at) 0 ∷ get_or marks n 0 ∷ get_or marks (suc (suc (4 * at)))
+    0 ∷ get_or marks (suc (suc (suc (4 * at)))) 0 ∷ []) one
+    ∙ ap (λ n. take (4 * at) marks ++ get_or marks (4 * at) 0 ∷ get_or marks (4 * at + 1)
+    0 ∷ get_or marks n 0 ∷ get_or marks (suc (suc (suc (4 * at)))) 0 ∷ []) two
     ∙ ap (λ n. take (4 * at) marks ++ get_or marks (4 * at) 0 ∷ get_or marks (4 * at + 1) 0 ∷ get_or marks (4 * at + 2) 0 ∷ get_or marks n 0 ∷ []) three
 
 -- one block more is kept
-pub within_more : (index old new : List ℕ) (number : ℕ) → AreWithin index old → length old ≤ length new → 4 * number + 4 ≤ length new → AreWithin (index ++ number ∷ []) new
+pub within_more : (index old new : List ℕ) (number : ℕ) → AreWithin index old → length old ≤ length new
+    → 4 * number + 4 ≤ length new → AreWithin (index ++ number ∷ []) new
 within_more [] old new number are more there zero block h = let e : number ≡ block = cc in omega (arith, e)
 within_more [] old new number are more there (suc at) block h = absurd (cc)
 within_more (first ∷ index) old new number are more there zero block h = omega (arith, are 0 block h)
@@ -187,7 +201,9 @@ packed_more marks index old new at number kept are before small =
     ∙ sym (take_four marks at small)
 
 -- a number that is read by the index
-pub word_read : (index blocks : List ℕ) (at block word : ℕ) → 0 < length index → at < 4 * length index → block ≡ get_or index (at / 4) 0 → word ≡ get_or blocks (4 * block + at % 4) 0 → word ≡ get_or (marks_of index blocks) at 0
+pub word_read : (index blocks : List ℕ) (at block word : ℕ) → 0 < length index → at < 4 * length index
+    → block ≡ get_or index (at / 4) 0 → word ≡ get_or blocks (4 * block + at % 4) 0
+    → word ≡ get_or (marks_of index blocks) at 0
 word_read index blocks at block word some small is here =
     here ∙ ap (λ b. get_or blocks (4 * b + at % 4) 0) is ∙ sym (read index blocks at small) ∙ sym (ap (λ m. get_or m at 0) (indexed index blocks some))
 
@@ -198,10 +214,12 @@ places index blocks some size = omega (arith, sym (ap length (indexed index bloc
 pub packed_all :
     (marks index blocks : List ℕ) (at : ℕ) → length marks ≡ 384 → at ≡ 96 → length index ≡ at → laid_out index blocks ≡ take (4 * at) marks
     → marks_of index blocks ≡ marks
-packed_all marks index blocks at size all many laid = indexed index blocks (omega (arith, all, many)) ∙ laid ∙ take_all (4 * at) marks (omega (arith, size, all))
+packed_all marks index blocks at size all many laid = indexed index blocks (omega (arith, all, many))
+    ∙ laid ∙ take_all (4 * at) marks (omega (arith, size, all))
 
 -- a block that is read by the index
-pub four_read : (index blocks : List ℕ) (at block : ℕ) → 0 < length index → at < length index → block ≡ get_or index at 0 → four blocks block ≡ four (marks_of index blocks) at
+pub four_read : (index blocks : List ℕ) (at block : ℕ) → 0 < length index → at < length index
+    → block ≡ get_or index at 0 → four blocks block ≡ four (marks_of index blocks) at
 four_read index blocks at block some small is =
     ap (λ b. four blocks b) is ∙ sym (read_four index blocks at small) ∙ sym (ap (λ m. four m at) (indexed index blocks some))
 

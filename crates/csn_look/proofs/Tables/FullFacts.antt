@@ -1,5 +1,7 @@
 -- Words behind which all words of one size are keys.
-use Rattle.std.proofs.Common.{◌≡◌, ℕ, ◌+◌, ◌-◌, ◌*◌, ◌/◌, ◌%◌, ◌^◌, ◌<◌, ◌≤◌, ◌≢◌, ◌⊎◌, ◌↔◌, inl, inr, Bool, true, false, not, ◌||◌, List, [], ◌∷◌, ◌++◌, length, get_or, IsTrue, refl, sym, ap, ◌∙◌, subst, arith, length-append}
+use Rattle.std.proofs.Common.{◌≡◌, ℕ, ◌+◌, ◌-◌, ◌*◌, ◌/◌, ◌%◌, ◌^◌, ◌<◌, ◌≤◌, ◌≢◌, ◌⊎◌, ◌↔◌, inl, inr, Bool, true}
+use Rattle.std.proofs.Common.{false, not, ◌||◌, List, [], ◌∷◌, ◌++◌, length, get_or, IsTrue, refl, sym, ap, ◌∙◌}
+use Rattle.std.proofs.Common.{subst, arith, length-append}
 use Rattle.std.specs.Prelude.{bit_or, ◌==◌}
 use Rattle.std.specs.Int.{bit_at, bit_not, w64}
 use Rattle.std.proofs.lemmas.Bool.Decides.{nat_tests}
@@ -94,7 +96,8 @@ pub record LevelAt (place more first end : ℕ) : Type 0 where
   pub order : first ≤ end
   pub within : end ≤ 8192
 
-pub level_at : (place most more : ℕ) → (place + 1) * 2 ^ most ≤ 8192 → more ≤ most → LevelAt place more (place * 2 ^ more % 2 ^ 64) (place * 2 ^ more % 2 ^ 64 + 1 * 2 ^ more % 2 ^ 64)
+pub level_at : (place most more : ℕ) → (place + 1) * 2 ^ most ≤ 8192 → more ≤ most
+    → LevelAt place more (place * 2 ^ more % 2 ^ 64) (place * 2 ^ more % 2 ^ 64 + 1 * 2 ^ more % 2 ^ 64)
 level_at place most more room few =
     let power : 2 ^ more ≤ 2 ^ most = pow-le-pow_right {n = 2} (omega arith) few in
     let times : (place + 1) * 2 ^ more ≤ (place + 1) * 2 ^ most = mul-le-mul_left (place + 1) power in
@@ -119,7 +122,9 @@ pub goes_to : (word back : List ℕ) (place : ℕ) → place_of word ≡ place �
 goes_to word back place here = place_of-append word back ∙ ap (λ n. n * 2 ^ length back + number_of back) here
 
 -- where a word starts no key, no word that goes on from it by zeros is one
-pub none_on : (marks word : List ℕ) (at many_more : ℕ) → IsKeyTable marks → IsWord word → place_of word ≡ at → is_marked marks (16384 + at) ≡ false → 0 < many_more → length word + many_more ≤ 12 → is_key_at marks (at * 2 ^ many_more) ≡ false
+pub none_on : (marks word : List ℕ) (at many_more : ℕ) → IsKeyTable marks → IsWord word → place_of word ≡ at
+    → is_marked marks (16384 + at) ≡ false → 0 < many_more → length word + many_more ≤ 12
+    → is_key_at marks (at * 2 ^ many_more) ≡ false
 none_on marks word at many_more table is here unmarked some short = by (is_key_at marks (at * 2 ^ many_more)) refl
   where
     n : Numbered many_more 0
@@ -154,12 +159,14 @@ none_on marks word at many_more table is here unmarked some short = by (is_key_a
 
 module _ (marks word : List ℕ) (place : ℕ) (here : place_of word ≡ place) where
   -- a word that goes on from it, by the number that its further bits write
-  key_behind : (back : List ℕ) (more number : ℕ) → length back ≡ more → number_of back ≡ number → IsTrue (is_key_at marks (place * 2 ^ more + number)) ↔ IsKeyOf marks (word ++ back)
+  key_behind : (back : List ℕ) (more number : ℕ) → length back ≡ more → number_of back ≡ number
+      → IsTrue (is_key_at marks (place * 2 ^ more + number)) ↔ IsKeyOf marks (word ++ back)
   key_behind back more number many writes =
       key_told marks (word ++ back) (place * 2 ^ more + number)
       (goes_to word back place here ∙ ap (λ k. place * 2 ^ k + number_of back) many ∙ ap (λ k. place * 2 ^ more + k) writes)
 
-  no_key_behind : (back : List ℕ) (more number : ℕ) → length back ≡ more → number_of back ≡ number → is_key_at marks (place * 2 ^ more + number) ≡ false → ¬ IsKeyOf marks (word ++ back)
+  no_key_behind : (back : List ℕ) (more number : ℕ) → length back ≡ more → number_of back ≡ number
+      → is_key_at marks (place * 2 ^ more + number) ≡ false → ¬ IsKeyOf marks (word ++ back)
   no_key_behind back more number many writes e key = let f = (key_behind back more number many writes).1 key in absurd (cc)
 
   pub full_of_place : (more : ℕ) → IsWord word → length word + more ≤ 12 → IsFullAt marks place more → IsFull marks word (length word + more)
@@ -169,10 +176,12 @@ module _ (marks word : List ℕ) (place : ℕ) (here : place_of word ≡ place) 
     full = λ back bits size.
         let few = number_of-lt back bits in
         let many : length back ≡ more = omega (arith, size) in
-        (key_behind back more (number_of back) many refl).0 (at.full (place * 2 ^ more + number_of back) (omega arith) (omega (arith, few, ap (λ n. 2 ^ n) many)));
+        (key_behind back more (number_of back) many refl).0 (at.full (place * 2 ^ more + number_of back) (omega arith)
+        (omega (arith, few, ap (λ n. 2 ^ n) many)));
     none = λ back bits size.
         let few = number_of-lt back bits in
-        no_key_behind back (length back) (number_of back) refl refl (at.none (length back) (omega (arith, size)) (place * 2 ^ length back + number_of back) (omega arith) (omega (arith, few)));
+        no_key_behind back (length back) (number_of back) refl refl (at.none (length back) (omega (arith, size))
+        (place * 2 ^ length back + number_of back) (omega arith) (omega (arith, few)));
   }
 
   pub place_of_full : (more bits : ℕ) → bits ≡ length word + more → IsFull marks word bits → IsFullAt marks place more
@@ -197,7 +206,8 @@ module _ (marks word : List ℕ) (place : ℕ) (here : place_of word ≡ place) 
 
 -- ---- the one size that it can be
 
-pub no_other_size : (marks : List ℕ) (place first more : ℕ) → is_key_at marks (place * 2 ^ first) ≡ true → AreNoKeys marks place first → IsFullAt marks place more → more ≡ first
+pub no_other_size : (marks : List ℕ) (place first more : ℕ) → is_key_at marks (place * 2 ^ first) ≡ true
+    → AreNoKeys marks place first → IsFullAt marks place more → more ≡ first
 no_other_size marks place first more key before at = by (order more first)
   where
     order : (a b : ℕ) → (a < b) ⊎ ((a ≡ b) ⊎ (b < a))
@@ -225,7 +235,8 @@ no_size marks place count more none less at =
 pub no_keys_first : (marks : List ℕ) (place : ℕ) → AreNoKeys marks place 0
 no_keys_first marks place n less = absurd (omega arith)
 
-pub no_keys_next : (marks : List ℕ) (place count at : ℕ) → AreNoKeys marks place count → at ≡ place * 2 ^ count → is_key_at marks at ≡ false → AreNoKeys marks place (count + 1)
+pub no_keys_next : (marks : List ℕ) (place count at : ℕ) → AreNoKeys marks place count → at ≡ place * 2 ^ count
+    → is_key_at marks at ≡ false → AreNoKeys marks place (count + 1)
 no_keys_next marks place count at none same e many_more less = by (below_or many_more count less)
   where
     by : (many_more < count) ⊎ (many_more ≡ count) → is_key_at marks (place * 2 ^ many_more) ≡ false
@@ -236,7 +247,9 @@ before_or : (m n : ℕ) → (m < n + 1) ⊎ (n < m)
 before_or m n = grind arith
 
 -- from a word on that starts no key there is none
-pub no_keys_on : (marks word : List ℕ) (place count at len : ℕ) → IsKeyTable marks → IsWord word → place_of word ≡ place → length word ≡ len → at ≡ place * 2 ^ count → len + count ≤ 12 → is_marked marks (16384 + at) ≡ false → AreNoKeys marks place (count + 1) → AreNoKeys marks place (13 - len)
+pub no_keys_on : (marks word : List ℕ) (place count at len : ℕ) → IsKeyTable marks → IsWord word
+    → place_of word ≡ place → length word ≡ len → at ≡ place * 2 ^ count → len + count ≤ 12
+    → is_marked marks (16384 + at) ≡ false → AreNoKeys marks place (count + 1) → AreNoKeys marks place (13 - len)
 no_keys_on marks word place count at len table is here size same room unmarked none many_more less = by (before_or many_more count)
   where
     n : Numbered count 0
@@ -246,7 +259,8 @@ no_keys_on marks word place count at len table is here size same room unmarked n
     front = word ++ n.word
 
     at_front : place_of front ≡ at
-    at_front = goes_to word n.word place here ∙ ap (λ k. place * 2 ^ k + number_of n.word) n.many ∙ ap (λ k. place * 2 ^ count + k) n.writes ∙ omega (arith, same)
+    at_front = goes_to word n.word place here ∙ ap (λ k. place * 2 ^ k + number_of n.word) n.many
+        ∙ ap (λ k. place * 2 ^ count + k) n.writes ∙ omega (arith, same)
 
     is_front : IsWord front
     is_front = word_join word n.word is n.bits (omega (arith, n.many, size, room))
@@ -257,9 +271,11 @@ no_keys_on marks word place count at len table is here size same room unmarked n
         let rest = many_more - count in
         let sum : count + rest ≡ many_more = omega (arith, many) in
         let power : 2 ^ (count + rest) ≡ 2 ^ count * 2 ^ rest = pow-add 2 count rest in
-        let place_is : place * 2 ^ many_more ≡ at * 2 ^ rest = ap (λ k. place * 2 ^ k) (sym sum) ∙ ap (λ k. place * k) power ∙ times place (2 ^ count) (2 ^ rest) ∙ ap (λ k. k * 2 ^ rest) (sym same) in
+        let place_is : place * 2 ^ many_more ≡ at * 2 ^ rest = ap (λ k. place * 2 ^ k) (sym sum)
+        ∙ ap (λ k. place * k) power ∙ times place (2 ^ count) (2 ^ rest) ∙ ap (λ k. k * 2 ^ rest) (sym same) in
         ap (λ k. is_key_at marks k) place_is
-        ∙ none_on marks front at rest table is_front at_front unmarked (omega (arith, many)) (omega (arith, length-append word n.word, n.many, size, less, many))
+        ∙ none_on marks front at rest table is_front at_front unmarked (omega (arith, many))
+        (omega (arith, length-append word n.word, n.many, size, less, many))
       where
         times : (a b c : ℕ) → a * (b * c) ≡ a * b * c
         times a b c = omega arith
@@ -277,5 +293,6 @@ key_place place len more small short =
 pub not_all : (marks : List ℕ) (place more : ℕ) → IsFullAt marks place more → IsOther marks true (place * 2 ^ more) (place * 2 ^ more + 2 ^ more) → ⊥
 not_all marks place more at (k, low, high, other) = let e = at.full k low high in absurd (cc)
 
-pub some_shorter : (marks : List ℕ) (place more : ℕ) → IsFullAt marks place more → (less : ℕ) × (less < more) × IsOther marks false (place * 2 ^ less) (place * 2 ^ less + 2 ^ less) → ⊥
+pub some_shorter : (marks : List ℕ) (place more : ℕ) → IsFullAt marks place more → (less : ℕ) × (less < more)
+    × IsOther marks false (place * 2 ^ less) (place * 2 ^ less + 2 ^ less) → ⊥
 some_shorter marks place more at (less, few, (k, low, high, other)) = let e = at.none less few k low high in absurd (cc)

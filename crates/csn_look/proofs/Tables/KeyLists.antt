@@ -1,5 +1,7 @@
 -- The list of the keys of a set.
-use Rattle.std.proofs.Common.{◌≡◌, ℕ, zero, suc, ◌+◌, ◌-◌, ◌*◌, ◌^◌, ◌<◌, ◌≤◌, Bool, true, false, Result, Ok, Err, IfOk, List, [], ◌∷◌, ◌++◌, length, IsTrue, ◌⊎◌, refl, sym, ap, ◌∙◌, subst, arith, inl, inr, append_assoc, append-nil, length-append}
+use Rattle.std.proofs.Common.{◌≡◌, ℕ, zero, suc, ◌+◌, ◌-◌, ◌*◌, ◌^◌, ◌<◌, ◌≤◌, Bool, true, false, Result, Ok, Err}
+use Rattle.std.proofs.Common.{IfOk, List, [], ◌∷◌, ◌++◌, length, IsTrue, ◌⊎◌, refl, sym, ap, ◌∙◌, subst, arith, inl}
+use Rattle.std.proofs.Common.{inr, append_assoc, append-nil, length-append}
 use Rattle.std.specs.List.{Contains}
 use Rattle.std.proofs.Math.Nat.{pow-suc, pow-le-pow_right}
 use Rattle.std.proofs.lemmas.List.Elements.{Contains-append_left, Contains-append_right, Contains-append_cases}
@@ -70,7 +72,8 @@ record IsOwn (marks word : List ℕ) (key : Key) : Type 0 where
 
 own_each : (marks word : List ℕ) (key : Key) → Contains (own_keys marks word) key → IsOwn marks word key
 own_each marks word key c =
-    elim (Contains-append_cases (keys_if (has_key marks word false) (record { word = word; whole = false } ∷ [])) (keys_if (has_key marks word true) (record { word = word; whole = true } ∷ [])) key c) [
+    elim (Contains-append_cases (keys_if (has_key marks word false) (record { word = word; whole = false } ∷ []))
+    (keys_if (has_key marks word true) (record { word = word; whole = true } ∷ [])) key c) [
       | inl d ↦ own false (in_if (has_key marks word false) (record { word = word; whole = false } ∷ []) key d)
       | inr d ↦ own true (in_if (has_key marks word true) (record { word = word; whole = true } ∷ []) key d)
     ]
@@ -92,12 +95,17 @@ own_all marks word key same marked = own key.whole refl
         if_in (has_key marks word whole) (record { word = word; whole = whole } ∷ []) key told (single_in (record { word = word; whole = whole }) key equal)
 
     own : (whole : Bool) → key.whole ≡ whole → Contains (own_keys marks word) key
-    own false e = Contains-append_left (keys_if (has_key marks word false) (record { word = word; whole = false } ∷ [])) (keys_if (has_key marks word true) (record { word = word; whole = true } ∷ [])) key (one false e)
-    own true e = Contains-append_right (keys_if (has_key marks word false) (record { word = word; whole = false } ∷ [])) (keys_if (has_key marks word true) (record { word = word; whole = true } ∷ [])) key (one true e)
+    own false e =
+        Contains-append_left (keys_if (has_key marks word false) (record { word = word; whole = false } ∷ []))
+        (keys_if (has_key marks word true) (record { word = word; whole = true } ∷ [])) key (one false e)
+    own true e = Contains-append_right
+        (keys_if (has_key marks word false) (record { word = word; whole = false } ∷ []))
+        (keys_if (has_key marks word true) (record { word = word; whole = true } ∷ [])) key (one true e)
 
 own_rising : (marks word : List ℕ) → IsRising (own_keys marks word)
 own_rising marks word =
-    rising_append (keys_if (has_key marks word false) (record { word = word; whole = false } ∷ [])) (keys_if (has_key marks word true) (record { word = word; whole = true } ∷ []))
+    rising_append (keys_if (has_key marks word false) (record { word = word; whole = false } ∷ []))
+    (keys_if (has_key marks word true) (record { word = word; whole = true } ∷ []))
     (rising_if (has_key marks word false) (record { word = word; whole = false } ∷ []) (tt, tt))
     (rising_if (has_key marks word true) (record { word = word; whole = true } ∷ []) (tt, tt))
     (λ x y c d.
@@ -136,7 +144,8 @@ listed marks zero word table room is = record {
   rising = own_rising marks word;
 }
   where
-    at_end : (key : Key) (back : List ℕ) → key.word ≡ word ++ back → IsWord key.word → IsTrue (has_key marks key.word key.whole) → Contains (own_keys marks word) key
+    at_end : (key : Key) (back : List ℕ) → key.word ≡ word ++ back → IsWord key.word
+        → IsTrue (has_key marks key.word key.whole) → Contains (own_keys marks word) key
     at_end key [] parts is_key marked = own_all marks word key (parts ∙ append-nil word) marked
     at_end key (x ∷ back) parts is_key marked =
         let short = is_key.short in let e = ap length parts in absurd (omega (arith, length-append word (x ∷ back)))
@@ -162,7 +171,9 @@ listed marks (suc n) word table room is =
           (rising_if (is_marked marks (16384 + place_of word)) (a ++ b) (rising_append a b zeros.rising ones.rising (λ x y c d.
           let f = zeros.each x c in let g = ones.each y d in
           lower word f.back g.back (f.parts ∙ append_assoc word (0 ∷ []) f.back) (g.parts ∙ append_assoc word (1 ∷ []) g.back))))
-          (λ x y c d. shorter (front_of x y (own_each marks word x c) (Contains-append_cases a b y (in_if (is_marked marks (16384 + place_of word)) (a ++ b) y d).1)));
+          (λ x y c d. shorter
+          (front_of x y (own_each marks word x c)
+          (Contains-append_cases a b y (in_if (is_marked marks (16384 + place_of word)) (a ++ b) y d).1)));
     }
       where
         further : (key : Key) → Contains (keys_if (is_marked marks (16384 + place_of word)) (a ++ b)) key → IsFrom marks word key
@@ -179,24 +190,47 @@ listed marks (suc n) word table room is =
             let f = ones.each y c in
             record { next = 1; back = f.back; parts = f.parts ∙ append_assoc word (1 ∷ []) f.back ∙ ap (λ w. w ++ 1 ∷ f.back) (sym own.same) }
 
-        starts : (key : Key) (x : ℕ) (back : List ℕ) → key.word ≡ word ++ x ∷ back → IsWord key.word → IsTrue (has_key marks key.word key.whole) → is_marked marks (16384 + place_of word) ≡ true
+        starts : (key : Key) (x : ℕ) (back : List ℕ) → key.word ≡ word ++ x ∷ back → IsWord key.word
+            → IsTrue (has_key marks key.word key.whole) → is_marked marks (16384 + place_of word) ≡ true
         starts key x back parts is_key marked =
             let P : List ℕ → Type 0 = IsWord in
-            (table.starts word is).1 (record { next = x; back = back; whole = key.whole; word = subst P parts is_key; key = ap (λ w. has_key marks w key.whole) (sym parts) ∙ marked })
+            (table.starts word is).1 (record {
+              next = x;
+              back = back;
+              whole = key.whole;
+              word =
+                  subst P parts is_key;
+              key = ap (λ w. has_key marks w key.whole) (sym parts) ∙ marked;
+            })
 
         which :
             (key : Key) (back : List ℕ) → key.word ≡ word ++ back → IsWord key.word → IsTrue (has_key marks key.word key.whole)
             → Contains (own_keys marks word ++ keys_if (is_marked marks (16384 + place_of word)) (a ++ b)) key
         which key [] parts is_key marked =
-            Contains-append_left (own_keys marks word) (keys_if (is_marked marks (16384 + place_of word)) (a ++ b)) key (own_all marks word key (parts ∙ append-nil word) marked)
+            Contains-append_left (own_keys marks word) (keys_if (is_marked marks (16384 + place_of word)) (a ++ b))
+            key (own_all marks word key (parts ∙ append-nil word) marked)
         which key (zero ∷ back) parts is_key marked =
             Contains-append_right (own_keys marks word) (keys_if (is_marked marks (16384 + place_of word)) (a ++ b)) key
             (if_in (is_marked marks (16384 + place_of word)) (a ++ b) key (starts key 0 back parts is_key marked)
-            (Contains-append_left a b key (zeros.all key (record { back = back; parts = parts ∙ sym (append_assoc word (0 ∷ []) back); is = is_key; marked = marked }))))
+            (Contains-append_left a b key
+            (zeros.all key (record {
+              back = back;
+              parts = parts ∙ sym (append_assoc word (0 ∷ []) back);
+              is =
+                  is_key;
+              marked = marked;
+            }))))
         which key (suc zero ∷ back) parts is_key marked =
             Contains-append_right (own_keys marks word) (keys_if (is_marked marks (16384 + place_of word)) (a ++ b)) key
             (if_in (is_marked marks (16384 + place_of word)) (a ++ b) key (starts key 1 back parts is_key marked)
-            (Contains-append_right a b key (ones.all key (record { back = back; parts = parts ∙ sym (append_assoc word (1 ∷ []) back); is = is_key; marked = marked }))))
+            (Contains-append_right a b key
+            (ones.all key (record {
+              back = back;
+              parts = parts ∙ sym (append_assoc word (1 ∷ []) back);
+              is =
+                  is_key;
+              marked = marked;
+            }))))
         which key (suc (suc x) ∷ back) parts is_key marked =
             let bits : IsBits (word ++ suc (suc x) ∷ back) = let P : List ℕ → Type 0 = IsBits in subst P parts is_key.bits in
             absurd (omega (arith, (bits_back word (suc (suc x) ∷ back) bits).0))
@@ -224,7 +258,8 @@ own_few marks word =
       arith,
       if_few (has_key marks word false) (record { word = word; whole = false } ∷ []),
       if_few (has_key marks word true) (record { word = word; whole = true } ∷ []),
-      length-append (keys_if (has_key marks word false) (record { word = word; whole = false } ∷ [])) (keys_if (has_key marks word true) (record { word = word; whole = true } ∷ [])),
+      length-append (keys_if (has_key marks word false) (record { word = word; whole = false } ∷ []))
+          (keys_if (has_key marks word true) (record { word = word; whole = true } ∷ [])),
     )
 
 pub few_keys : (marks : List ℕ) (n : ℕ) (word : List ℕ) → length (keys_from marks n word) + 2 ≤ 2 ^ (n + 2)
@@ -238,13 +273,15 @@ few_keys marks (suc n) word =
       own_few marks word,
       if_few (is_marked marks (16384 + place_of word)) (keys_from marks n (word ++ 0 ∷ []) ++ keys_from marks n (word ++ 1 ∷ [])),
       length-append (keys_from marks n (word ++ 0 ∷ [])) (keys_from marks n (word ++ 1 ∷ [])),
-      length-append (own_keys marks word) (keys_if (is_marked marks (16384 + place_of word)) (keys_from marks n (word ++ 0 ∷ []) ++ keys_from marks n (word ++ 1 ∷ []))),
+      length-append (own_keys marks word) (keys_if (is_marked marks (16384 + place_of word))
+          (keys_from marks n (word ++ 0 ∷ []) ++ keys_from marks n (word ++ 1 ∷ []))),
     )
 
 -- ---- the steps of the listing
 
 -- no key more
-pub key_none : (marks : List ℕ) (key : Key) (items : List Key) → has_key marks key.word key.whole ≡ false → items ≡ items ++ keys_if (has_key marks key.word key.whole) (key ∷ [])
+pub key_none : (marks : List ℕ) (key : Key) (items : List Key) → has_key marks key.word key.whole ≡ false
+    → items ≡ items ++ keys_if (has_key marks key.word key.whole) (key ∷ [])
 key_none marks key items told = sym (append-nil items) ∙ ap (λ b. items ++ keys_if b (key ∷ [])) (sym told)
 
 pub if_ok_then : {T E : Type 0} (r : Result T E) (A B : Type 0) → (A → B) → IfOk r (λ done. A) → IfOk r (λ done. B)
@@ -258,21 +295,25 @@ pub listed_own :
     → new ≡ mid ++ keys_if (has_key marks seen true) (record { word = seen; whole = true } ∷ []) → new ≡ old ++ own_keys marks word
 listed_own marks word seen old mid new same one two =
     two ∙ ap (λ l. l ++ keys_if (has_key marks seen true) (record { word = seen; whole = true } ∷ [])) one
-    ∙ append_assoc old (keys_if (has_key marks seen false) (record { word = seen; whole = false } ∷ [])) (keys_if (has_key marks seen true) (record { word = seen; whole = true } ∷ []))
+    ∙ append_assoc old (keys_if (has_key marks seen false) (record { word = seen; whole = false } ∷ []))
+    (keys_if (has_key marks seen true) (record { word = seen; whole = true } ∷ []))
     ∙ ap (λ w. old ++ own_keys marks w) same
 
 -- at the end of a word, or where no key goes on
-pub listed_end : (marks word : List ℕ) (size : ℕ) (old new : List Key) → size ≡ 12 → new ≡ old ++ own_keys marks word → new ≡ old ++ keys_from marks (12 - size) word
+pub listed_end : (marks word : List ℕ) (size : ℕ) (old new : List Key) → size ≡ 12 → new ≡ old ++ own_keys marks word
+    → new ≡ old ++ keys_from marks (12 - size) word
 listed_end marks word size old new all own =
     let none : 12 - size ≡ 0 = omega arith in
     own ∙ ap (λ n. old ++ keys_from marks n word) (sym none)
 
 further_keys : (marks word : List ℕ) (size : ℕ) (b : Bool) → size < 12 → is_marked marks (16384 + place_of word) ≡ b
-    → keys_from marks (12 - size) word ≡ own_keys marks word ++ keys_if b (keys_from marks (12 - (size + 1)) (word ++ 0 ∷ []) ++ keys_from marks (12 - (size + 1)) (word ++ 1 ∷ []))
+    → keys_from marks (12 - size) word ≡ own_keys marks word ++ keys_if b
+    (keys_from marks (12 - (size + 1)) (word ++ 0 ∷ []) ++ keys_from marks (12 - (size + 1)) (word ++ 1 ∷ []))
 further_keys marks word size b small test =
     let more : 12 - size ≡ suc (12 - (size + 1)) = omega arith in
     ap (λ n. keys_from marks n word) more
-    ∙ ap (λ t. own_keys marks word ++ keys_if t (keys_from marks (12 - (size + 1)) (word ++ 0 ∷ []) ++ keys_from marks (12 - (size + 1)) (word ++ 1 ∷ []))) test
+    ∙ ap (λ t. own_keys marks word ++ keys_if t (keys_from marks (12 - (size + 1)) (word ++ 0 ∷ []) ++ keys_from marks
+    (12 - (size + 1)) (word ++ 1 ∷ []))) test
 
 pub listed_none : (marks word : List ℕ) (size : ℕ) (old new : List Key) → size < 12 → is_marked marks (16384 + place_of word) ≡ false
     → new ≡ old ++ own_keys marks word → new ≡ old ++ keys_from marks (12 - size) word

@@ -1,5 +1,7 @@
 -- What the marks of a set of keys say, and what further keys do to them.
-use Rattle.std.proofs.Common.{eq-eqb, ◌≡◌, ℕ, ◌+◌, ◌/◌, ◌<◌, ◌≤◌, Bool, true, false, ◌||◌, nat_eq, List, [], ◌∷◌, ◌++◌, length, IsTrue, ◌↔◌, refl, sym, ap, ◌∙◌, subst, arith, inl, inr, ◌⊎◌, append_assoc, append-nil, length-append}
+use Rattle.std.proofs.Common.{eq-eqb, ◌≡◌, ℕ, ◌+◌, ◌/◌, ◌<◌, ◌≤◌, Bool, true, false, ◌||◌, nat_eq, List, [], ◌∷◌}
+use Rattle.std.proofs.Common.{◌++◌, length, IsTrue, ◌↔◌, refl, sym, ap, ◌∙◌, subst, arith, inl, inr, ◌⊎◌}
+use Rattle.std.proofs.Common.{append_assoc, append-nil, length-append}
 use Rattle.std.proofs.lemmas.Bool.{eqb-true, or_cases, or_left, or_right}
 use Rattle.std.proofs.lemmas.Bool.Decides.{eqb_tells, nat_tests}
 use Rattle.csn_bits.specs.Octets.{IsBits}
@@ -30,7 +32,9 @@ key_here marks front at here h =
       | inr e ↦ record { whole = false; key = ap (λ n. is_marked marks (8192 + n)) here ∙ e }
     ]
 
-pub here_key : (marks front : List ℕ) (at : ℕ) (whole : Bool) → place_of front ≡ at → IsTrue (has_key marks front whole) → (is_marked marks at || is_marked marks (8192 + at)) ≡ true
+pub here_key : (marks front : List ℕ) (at : ℕ) (whole : Bool)
+    → place_of front ≡ at → IsTrue (has_key marks front whole)
+    → (is_marked marks at || is_marked marks (8192 + at)) ≡ true
 here_key marks front at true here h = or_left _ (is_marked marks (8192 + at)) (ap (λ n. is_marked marks n) (sym here) ∙ h)
 here_key marks front at false here h = or_right (is_marked marks at) (is_marked marks (8192 + at)) (ap (λ n. is_marked marks (8192 + n)) (sym here) ∙ h)
 
@@ -65,7 +69,8 @@ searched_next marks word at is more not s = down s.front s.back s.parts s.here s
         let one : place_of front ≡ 1 = ap place_of e in absurd (omega arith)
     down front back parts here none (last_bit g x e) =
         let split : word ≡ g ++ x ∷ back = parts ∙ ap (λ f. f ++ back) e ∙ append_assoc g (x ∷ []) back in
-        let bits : IsBits (g ++ x ∷ []) = let P : List ℕ → Type 0 = IsBits in subst P e (IsBits-front front back (let Q : List ℕ → Type 0 = IsBits in subst Q parts is.bits)) in
+        let bits : IsBits (g ++ x ∷ []) = let P : List ℕ → Type 0 = IsBits in
+        subst P e (IsBits-front front back (let Q : List ℕ → Type 0 = IsBits in subst Q parts is.bits)) in
         let half : place_of g ≡ at / 2 = sym (place_of-half g x (last_small g x bits)) ∙ ap (λ f. place_of f / 2) (sym e) ∙ ap (λ n. n / 2) here in
         record {
           front = g;
@@ -90,7 +95,9 @@ found marks word at h s =
     record { front = s.front; back = s.back; parts = s.parts; whole = here.whole; key = here.key }
 
 -- at the empty word the search is over
-pub not_found : (marks word : List ℕ) (at : ℕ) → IsWord word → at ≡ 1 → (is_marked marks 1 || is_marked marks 8193) ≡ false → IsSearched marks word at → BeginsWithKey marks word → ⊥
+pub not_found : (marks word : List ℕ) (at : ℕ)
+    → IsWord word → at ≡ 1 → (is_marked marks 1 || is_marked marks 8193) ≡ false → IsSearched marks word at
+    → BeginsWithKey marks word → ⊥
 not_found marks word at is one not s k =
     let bits : IsBits s.front = IsBits-front s.front s.back (let P : List ℕ → Type 0 = IsBits in subst P s.parts is.bits) in
     let empty : s.front ≡ [] = place_of-one s.front bits (s.here ∙ one) in
@@ -162,7 +169,8 @@ raised_next mid old new word at is more set r = down r.front r.back r.parts r.he
     down front back parts here starts (last_bit g x e) =
         let split : word ≡ g ++ x ∷ back = parts ∙ ap (λ f. f ++ back) e ∙ append_assoc g (x ∷ []) back in
         let whole : IsWord (g ++ x ∷ back) = let P : List ℕ → Type 0 = IsWord in subst P split is in
-        let bits : IsBits (g ++ x ∷ []) = let P : List ℕ → Type 0 = IsBits in subst P e (IsBits-front front back (let Q : List ℕ → Type 0 = IsBits in subst Q parts is.bits)) in
+        let bits : IsBits (g ++ x ∷ []) = let P : List ℕ → Type 0 = IsBits in
+        subst P e (IsBits-front front back (let Q : List ℕ → Type 0 = IsBits in subst Q parts is.bits)) in
         let half : place_of g ≡ at / 2 = sym (place_of-half g x (last_small g x bits)) ∙ ap (λ f. place_of f / 2) (sym e) ∙ ap (λ n. n / 2) here in
         let lengths : length front ≡ length g + 1 = ap length e ∙ length-append g (x ∷ []) in
         record {
@@ -185,7 +193,9 @@ raised_next mid old new word at is more set r = down r.front r.back r.parts r.he
                   ]
             ],
             λ h. elim h [
-              | inl e ↦ set (16384 + place_of f) ∙ or_right (nat_eq (16384 + place_of f) (16384 + at / 2)) (is_marked old (16384 + place_of f)) ((starts f word_f).1 (inl e))
+              | inl e ↦ set (16384 + place_of f)
+                  ∙ or_right (nat_eq (16384 + place_of f) (16384 + at / 2)) (is_marked old (16384 + place_of f))
+                  ((starts f word_f).1 (inl e))
               | inr p ↦
                   set (16384 + place_of f)
                   ∙ marked f word_f p.0 half (longer_or (length g) (length f) p.1)
@@ -196,11 +206,14 @@ raised_next mid old new word at is more set r = down r.front r.back r.parts r.he
         sym_half : (p q h : ℕ) → q ≡ h → nat_eq (16384 + p) (16384 + h) ≡ true → p ≡ q
         sym_half p q h e t = grind (arith, nat_tests)
 
-        marked : (f : List ℕ) → IsWord f → IsFront f word → place_of g ≡ at / 2 → (length g ≡ length f) ⊎ (length g < length f) → (nat_eq (16384 + place_of f) (16384 + at / 2) || is_marked old (16384 + place_of f)) ≡ true
+        marked : (f : List ℕ) → IsWord f → IsFront f word → place_of g ≡ at / 2 → (length g ≡ length f)
+            ⊎ (length g < length f)
+            → (nat_eq (16384 + place_of f) (16384 + at / 2) || is_marked old (16384 + place_of f)) ≡ true
         marked f word_f p half (inl same) =
             let split : word ≡ g ++ x ∷ back = parts ∙ ap (λ f. f ++ back) e ∙ append_assoc g (x ∷ []) back in
             let equal : f ≡ g = fronts f g (p.next ∷ p.back) (x ∷ back) (sym p.parts ∙ split) (sym same) in
-            or_left (nat_eq (16384 + place_of f) (16384 + at / 2)) (is_marked old (16384 + place_of f)) (eq-eqb (16384 + place_of f) (16384 + at / 2) (ap (λ n. 16384 + n) (ap place_of equal ∙ half)))
+            or_left (nat_eq (16384 + place_of f) (16384 + at / 2)) (is_marked old (16384 + place_of f))
+            (eq-eqb (16384 + place_of f) (16384 + at / 2) (ap (λ n. 16384 + n) (ap place_of equal ∙ half)))
         marked f word_f p half (inr past) =
             let lengths : length front ≡ length g + 1 = ap length e ∙ length-append g (x ∷ []) in
             or_right (nat_eq (16384 + place_of f) (16384 + at / 2)) (is_marked old (16384 + place_of f)) ((starts f word_f).1 (inr (p, omega arith)))
@@ -242,19 +255,54 @@ tables_joined old other new size table more marks = record {
     λ h. elim (or_cases (is_marked old (16384 + place_of f)) (is_marked other (16384 + place_of f)) (sym (marks (16384 + place_of f)) ∙ h)) [
       | inl e ↦
           let s = (table.starts f word_f).0 e in
-          record { next = s.next; back = s.back; whole = s.whole; word = s.word; key = marks _ ∙ or_left (has_key old (f ++ s.next ∷ s.back) s.whole) (has_key other (f ++ s.next ∷ s.back) s.whole) s.key }
+          record {
+            next = s.next;
+            back = s.back;
+            whole = s.whole;
+            word = s.word;
+            key =
+                marks _ ∙ or_left (has_key old (f ++ s.next ∷ s.back) s.whole)
+                (has_key other (f ++ s.next ∷ s.back) s.whole) s.key;
+          }
       | inr e ↦
           let s = (more.starts f word_f).0 e in
-          record { next = s.next; back = s.back; whole = s.whole; word = s.word; key = marks _ ∙ or_right (has_key old (f ++ s.next ∷ s.back) s.whole) (has_key other (f ++ s.next ∷ s.back) s.whole) s.key }
+          record {
+            next = s.next;
+            back = s.back;
+            whole = s.whole;
+            word = s.word;
+            key =
+                marks _ ∙ or_right (has_key old (f ++ s.next ∷ s.back) s.whole)
+                (has_key other (f ++ s.next ∷ s.back) s.whole) s.key;
+          }
     ],
-    λ s. marks (16384 + place_of f) ∙ elim (or_cases (has_key old (f ++ s.next ∷ s.back) s.whole) (has_key other (f ++ s.next ∷ s.back) s.whole) (sym (marks (key_mark (place_of (f ++ s.next ∷ s.back)) s.whole)) ∙ s.key)) [
-      | inl e ↦ or_left (is_marked old (16384 + place_of f)) (is_marked other (16384 + place_of f)) ((table.starts f word_f).1 (record { next = s.next; back = s.back; whole = s.whole; word = s.word; key = e }))
-      | inr e ↦ or_right (is_marked old (16384 + place_of f)) (is_marked other (16384 + place_of f)) ((more.starts f word_f).1 (record { next = s.next; back = s.back; whole = s.whole; word = s.word; key = e }))
-    ],
+    λ s. marks (16384 + place_of f)
+        ∙ elim (or_cases (has_key old (f ++ s.next ∷ s.back) s.whole) (has_key other (f ++ s.next ∷ s.back) s.whole)
+        (sym (marks (key_mark (place_of (f ++ s.next ∷ s.back)) s.whole)) ∙ s.key)) [
+          | inl e ↦ or_left (is_marked old (16384 + place_of f)) (is_marked other (16384 + place_of f))
+              ((table.starts f word_f).1 (record {
+                next = s.next;
+                back = s.back;
+                whole = s.whole;
+                word = s.word;
+                key =
+                    e;
+              }))
+          | inr e ↦ or_right (is_marked old (16384 + place_of f)) (is_marked other (16384 + place_of f))
+              ((more.starts f word_f).1 (record {
+                next = s.next;
+                back = s.back;
+                whole = s.whole;
+                word = s.word;
+                key =
+                    e;
+              }))
+        ],
   );
 }
 
-pub adds_joined : (old other new : List ℕ) → ((at : ℕ) → is_marked new at ≡ (is_marked old at || is_marked other at)) → Adds old new (λ key mark. IsTrue (has_key other key mark))
+pub adds_joined : (old other new : List ℕ) → ((at : ℕ) → is_marked new at ≡ (is_marked old at || is_marked other at))
+    → Adds old new (λ key mark. IsTrue (has_key other key mark))
 adds_joined old other new marks = λ word whole is. (
   λ h. or_cases (has_key old word whole) (has_key other word whole) (sym (marks (key_mark (place_of word) whole)) ∙ h),
   λ h. marks (key_mark (place_of word) whole) ∙ elim h [
@@ -300,12 +348,15 @@ module _ (old mid new word : List ℕ) (at : ℕ) (whole : Bool) (is : IsWord wo
     λ h. r.keys (key_mark (place_of key) mark) (key_mark-low key mark word_k) ∙ set (key_mark (place_of key) mark) ∙ elim h [
       | inl e ↦ or_right (nat_eq (key_mark (place_of key) mark) (key_mark (place_of word) whole)) (has_key old key mark) e
       | inr e ↦ or_left (nat_eq (key_mark (place_of key) mark) (key_mark (place_of word) whole)) (has_key old key mark)
-          (eq-eqb (key_mark (place_of key) mark) (key_mark (place_of word) whole) (ap (λ k. key_mark (place_of k) mark) e.0 ∙ ap (λ m. key_mark (place_of word) m) e.1))
+          (eq-eqb (key_mark (place_of key) mark) (key_mark (place_of word) whole)
+          (ap (λ k. key_mark (place_of k) mark) e.0 ∙ ap (λ m. key_mark (place_of word) m) e.1))
     ],
   )
 
   same_start : (f : List ℕ) → is_marked mid (16384 + place_of f) ≡ is_marked old (16384 + place_of f)
-  same_start f = set (16384 + place_of f) ∙ ap (λ b. b || is_marked old (16384 + place_of f)) (far_mark (key_mark (place_of word) whole) (place_of f) (key_mark-low word whole is))
+  same_start f = set (16384 + place_of f)
+      ∙ ap (λ b. b || is_marked old (16384 + place_of f)) (far_mark (key_mark (place_of word) whole) (place_of f)
+      (key_mark-low word whole is))
 
   -- all of these are set
   pub raised_last : at ≡ 1 → AddsKey old new word whole
@@ -337,7 +388,8 @@ module _ (old mid new word : List ℕ) (at : ℕ) (whole : Bool) (is : IsWord wo
     where
       by_last :
           IsKeyTable old → (front back : List ℕ) → word ≡ front ++ back → place_of front ≡ at
-          → ((f : List ℕ) → IsWord f → IsTrue (is_marked new (16384 + place_of f)) ↔ (IsTrue (is_marked mid (16384 + place_of f)) ⊎ (IsFront f word × (length front ≤ length f))))
+          → ((f : List ℕ) → IsWord f → IsTrue (is_marked new (16384 + place_of f)) ↔
+          (IsTrue (is_marked mid (16384 + place_of f)) ⊎ (IsFront f word × (length front ≤ length f))))
           → LastBit front → (f : List ℕ) → IsWord f
           → IsTrue (is_marked new (16384 + place_of f)) ↔ (IsTrue (is_marked old (16384 + place_of f)) ⊎ IsFront f word)
       by_last table front back parts here starts (no_bits e) f word_f =
@@ -377,7 +429,8 @@ module _ (old mid new word : List ℕ) (at : ℕ) (whole : Bool) (is : IsWord wo
 
           half : place_of g ≡ at / 2
           half =
-              let bits : IsBits (g ++ x ∷ []) = let P : List ℕ → Type 0 = IsBits in subst P e (IsBits-front front back (let Q : List ℕ → Type 0 = IsBits in subst Q parts is.bits)) in
+              let bits : IsBits (g ++ x ∷ []) = let P : List ℕ → Type 0 = IsBits in
+              subst P e (IsBits-front front back (let Q : List ℕ → Type 0 = IsBits in subst Q parts is.bits)) in
               sym (place_of-half g x (last_small g x bits)) ∙ ap (λ f. place_of f / 2) (sym e) ∙ ap (λ n. n / 2) here
 
           -- a key goes on from the prefix whose mark was set
@@ -397,7 +450,8 @@ module _ (old mid new word : List ℕ) (at : ℕ) (whole : Bool) (is : IsWord wo
               shorter [] same = let P : List ℕ → Type 0 = StartsKey old in subst P (same ∙ append-nil f) goes_on
               shorter (y ∷ rest) same =
                   let k = goes_on in
-                  let on : g ++ k.next ∷ k.back ≡ f ++ y ∷ (rest ++ k.next ∷ k.back) = ap (λ l. l ++ k.next ∷ k.back) same ∙ append_assoc f (y ∷ rest) (k.next ∷ k.back) in
+                  let on : g ++ k.next ∷ k.back ≡ f ++ y ∷ (rest ++ k.next ∷ k.back) = ap (λ l. l ++ k.next ∷ k.back)
+                  same ∙ append_assoc f (y ∷ rest) (k.next ∷ k.back) in
                   let P : List ℕ → Type 0 = IsWord in
                   let Q : List ℕ → Type 0 = λ l. IsTrue (has_key old l k.whole) in
                   record { next = y; back = rest ++ k.next ∷ k.back; whole = k.whole; word = subst P on k.word; key = subst Q on k.key }
@@ -423,7 +477,8 @@ key_told marks word at here = (
   (λ (whole, key). here_key marks word at whole here key),
 )
 
-pub starts_told : (marks word : List ℕ) (at : ℕ) → IsKeyTable marks → IsWord word → place_of word ≡ at → IsTrue (is_marked marks (16384 + at)) ↔ StartsKey marks word
+pub starts_told : (marks word : List ℕ) (at : ℕ) → IsKeyTable marks → IsWord word → place_of word ≡ at
+    → IsTrue (is_marked marks (16384 + at)) ↔ StartsKey marks word
 starts_told marks word at table is here =
     let same : is_marked marks (16384 + at) ≡ is_marked marks (16384 + place_of word) = ap (λ p. is_marked marks (16384 + p)) (sym here) in (
       (λ h. (table.starts word is).0 (sym same ∙ h)),

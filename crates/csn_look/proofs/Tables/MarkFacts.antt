@@ -1,5 +1,6 @@
 -- What setting marks does.
-use Rattle.std.proofs.Common.{◌≡◌, ℕ, zero, suc, ◌*◌, ◌/◌, ◌%◌, ◌^◌, ◌<◌, ◌≤◌, ◌≢◌, true, false, ◌||◌, nat_eq, List, length, get_or, refl, sym, ap, ◌∙◌, arith, inl, inr, ◌⊎◌}
+use Rattle.std.proofs.Common.{◌≡◌, ℕ, zero, suc, ◌*◌, ◌/◌, ◌%◌, ◌^◌, ◌<◌, ◌≤◌, ◌≢◌, true, false, ◌||◌, nat_eq, List}
+use Rattle.std.proofs.Common.{length, get_or, refl, sym, ap, ◌∙◌, arith, inl, inr, ◌⊎◌}
 use Rattle.std.specs.Prelude.{bit_or, ◌==◌, slice_set}
 use Prim.Native.Nat.{max}
 use Rattle.std.specs.Int.{bit_at, w64}
@@ -35,12 +36,15 @@ set_marked marks at other within =
     elsewhere (inl same) test apart there low =
         let differs : other % 64 ≢ at % 64 = λ e. apart (omega (arith, e, same.1)) in
         let new = bit_or (get_or marks (at / 64) 0) (1 * 2 ^ (at % 64) % 18446744073709551616) in
-        let written : get_or (slice_set marks (at / 64) new) (other / 64) 0 ≡ new = ap (λ n. get_or (slice_set marks (at / 64) new) n 0) same.1 ∙ get_or-set_same marks (at / 64) new 0 there in
+        let written : get_or (slice_set marks (at / 64) new) (other / 64) 0 ≡ new =
+        ap (λ n. get_or (slice_set marks (at / 64) new) n 0) same.1 ∙ get_or-set_same marks (at / 64)
+        new 0 there in
         let bit = bit_at_set_other w64 (get_or marks (at / 64) 0) (at % 64) low (other % 64) differs in
         ap (λ n. bit_at n (other % 64) == 1) written ∙ ap (λ n. n == 1) bit ∙ ap (λ n. bit_at (get_or marks n 0) (other % 64) == 1) (sym same.1)
         ∙ sym (ap (λ b. b || is_marked marks other) test)
     elsewhere (inr away) test apart there low =
-        ap (λ n. bit_at n (other % 64) == 1) (get_or-set_other marks (at / 64) (other / 64) (bit_or (get_or marks (at / 64) 0) (1 * 2 ^ (at % 64) % 18446744073709551616)) 0 away.1)
+        ap (λ n. bit_at n (other % 64) == 1) (get_or-set_other marks (at / 64) (other / 64)
+        (bit_or (get_or marks (at / 64) 0) (1 * 2 ^ (at % 64) % 18446744073709551616)) 0 away.1)
         ∙ sym (ap (λ b. b || is_marked marks other) test)
 
 either : (a b c : ℕ) → c ≡ max a b → a < 2 → b < 2 → (c == 1) ≡ ((a == 1) || (b == 1))
@@ -65,7 +69,8 @@ pub word_joined :
     → is_marked (slice_set marks at (bit_or (get_or marks at 0) more)) n ≡ (is_marked marks n || (bit_at more (n % 64) == 1))
 word_joined marks at more n there same =
     let new = bit_or (get_or marks at 0) more in
-    let written : get_or (slice_set marks at new) (n / 64) 0 ≡ new = ap (λ w. get_or (slice_set marks at new) w 0) same ∙ get_or-set_same marks at new 0 there in
+    let written : get_or (slice_set marks at new) (n / 64) 0 ≡ new = ap (λ w. get_or (slice_set marks at new) w 0)
+    same ∙ get_or-set_same marks at new 0 there in
     ap (λ w. bit_at w (n % 64) == 1) written ∙ bit_of_either (get_or marks at 0) more (n % 64)
     ∙ ap (λ w. (bit_at (get_or marks w 0) (n % 64) == 1) || (bit_at more (n % 64) == 1)) (sym same)
 

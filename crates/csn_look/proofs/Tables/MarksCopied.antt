@@ -1,5 +1,6 @@
 -- Marks that are copied, as many at once as stand in one number.
-use Rattle.std.proofs.Common.{◌≡◌, ℕ, ◌+◌, ◌-◌, ◌*◌, ◌/◌, ◌%◌, ◌^◌, ◌<◌, ◌≤◌, Bool, true, false, ◌||◌, List, length, get_or, refl, sym, ap, ◌∙◌, arith, inl, inr}
+use Rattle.std.proofs.Common.{◌≡◌, ℕ, ◌+◌, ◌-◌, ◌*◌, ◌/◌, ◌%◌, ◌^◌, ◌<◌, ◌≤◌, Bool, true, false, ◌||◌, List, length}
+use Rattle.std.proofs.Common.{get_or, refl, sym, ap, ◌∙◌, arith, inl, inr}
 use Rattle.std.specs.Prelude.{bit_or, ◌==◌, slice_set}
 use Rattle.std.specs.Int.{bit_at}
 use lib.Bits.{bit_and}
@@ -56,8 +57,12 @@ module _ (number run : ℕ) (some : 0 < run) (few : run ≤ 64) where
 
 -- one run of marks
 pub run_copied :
-    (marks others : List ℕ) (to from run word : ℕ) → word ≡ get_or others (from / 64) 0 → 0 < run → to % 64 + run ≤ 64 → from % 64 + run ≤ 64 → to / 64 < length marks
-    → Copies marks (slice_set marks (to / 64) (bit_or (get_or marks (to / 64) 0) (bit_and (word / 2 ^ (from % 64)) (18446744073709551615 / 2 ^ (64 - run)) * 2 ^ (to % 64) % 18446744073709551616))) others to from run
+    (marks others : List ℕ) (to from run word : ℕ) → word ≡ get_or others (from / 64) 0 → 0 < run → to % 64 + run ≤ 64
+    → from % 64 + run ≤ 64 → to / 64 < length marks
+    → Copies marks
+    (slice_set marks (to / 64)
+    (bit_or (get_or marks (to / 64) 0) (bit_and (word / 2 ^ (from % 64)) (18446744073709551615 / 2 ^ (64 - run))
+    * 2 ^ (to % 64) % 18446744073709551616))) others to from run
 run_copied marks others to from run word is some here there within = record {
   inside = λ k low.
       let same : (to + k) / 64 ≡ to / 64 = omega arith in
@@ -67,7 +72,8 @@ run_copied marks others to from run word is some here there within = record {
       let other_place : (from + k) % 64 ≡ from % 64 + k = omega arith in
       word_joined marks (to / 64) added (to + k) within same
       ∙ ap (λ b. is_marked marks (to + k) || (b == 1))
-      (ap (λ i. bit_at added i) place ∙ ap (λ n. bit_at n (to % 64 + k)) whole ∙ bit_high bits (to % 64) (to % 64 + k) (omega arith) ∙ ap (λ i. bit_at bits i) away
+      (ap (λ i. bit_at added i) place ∙ ap (λ n. bit_at n (to % 64 + k)) whole ∙ bit_high bits (to % 64) (to % 64 + k)
+      (omega arith) ∙ ap (λ i. bit_at bits i) away
       ∙ lowest_inside (word / 2 ^ (from % 64)) run some few k low ∙ bit_down word (from % 64) k ∙ ap (λ w. bit_at w (from % 64 + k)) is
       ∙ ap (λ i. bit_at (get_or others (from / 64) 0) i) (sym other_place) ∙ ap (λ w. bit_at (get_or others w 0) ((from + k) % 64)) (sym other));
   before = λ at low. elim (cases_eq (at / 64) (to / 64)) [

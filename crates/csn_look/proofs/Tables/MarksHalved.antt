@@ -48,7 +48,8 @@ none_set left a b e f none =
 
 -- one mark more, which is set
 pub halved_one :
-    (marks at half : ℕ) → at < 32 → marks / 2 ^ (2 * at) % 4 ≢ 0 → IsHalved marks at half → IsHalved marks (at + 1) (bit_or half (1 * 2 ^ at % 18446744073709551616))
+    (marks at half : ℕ) → at < 32 → marks / 2 ^ (2 * at) % 4 ≢ 0 → IsHalved marks at half
+    → IsHalved marks (at + 1) (bit_or half (1 * 2 ^ at % 18446744073709551616))
 halved_one marks at half few some h = record {
   below = λ k low. elim (cases_eq k at) [
     | inl same ↦
@@ -89,12 +90,14 @@ halved_none marks at half few none h = record {
 
 -- the marks of two numbers, each two as one
 pub two_halved :
-    (low high a b k : ℕ) → a < 2 ^ 32 → b < 2 ^ 32 → ((i : ℕ) → i < 32 → (bit_at a i == 1) ≡ either_of low i) → ((i : ℕ) → i < 32 → (bit_at b i == 1) ≡ either_of high i)
+    (low high a b k : ℕ) → a < 2 ^ 32 → b < 2 ^ 32 → ((i : ℕ) → i < 32 → (bit_at a i == 1) ≡ either_of low i)
+    → ((i : ℕ) → i < 32 → (bit_at b i == 1) ≡ either_of high i)
     → ((k < 32) → (bit_at (bit_or a (b * 2 ^ 32)) k == 1) ≡ either_of low k)
     × ((32 ≤ k) → k < 64 → (bit_at (bit_or a (b * 2 ^ 32)) k == 1) ≡ either_of high (k - 32))
 two_halved low high a b k few more lower upper = (
   λ small. bit_of_either a (b * 2 ^ 32) k ∙ second (bit_at a k == 1) (bit_at (b * 2 ^ 32) k) (bit_low b 32 k small) ∙ lower k small,
-  λ large within. bit_of_either a (b * 2 ^ 32) k ∙ first (bit_at a k) (bit_at (b * 2 ^ 32) k == 1) (bit_at_above a 32 k few large) ∙ ap (λ n. n == 1) (bit_high b 32 k large) ∙ upper (k - 32) (omega arith),
+  λ large within. bit_of_either a (b * 2 ^ 32) k ∙ first (bit_at a k) (bit_at (b * 2 ^ 32) k == 1)
+      (bit_at_above a 32 k few large) ∙ ap (λ n. n == 1) (bit_high b 32 k large) ∙ upper (k - 32) (omega arith),
 )
   where
     second : (x : Bool) (y : ℕ) → y ≡ 0 → (x || (y == 1)) ≡ x

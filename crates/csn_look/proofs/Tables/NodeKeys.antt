@@ -23,7 +23,8 @@ module _ (d : DescV) where
         from : (word : List ℕ) (mark : Bool) → IsWord word → PartsKeys d 12 (i ∷ parts) o word mark → AfterKeys first rests word mark
         from word mark is (parts_cut h same) = after_cut ((one word false is).1 h) same
         from word mark is (parts_whole front back rest h hs left) =
-            after_whole front back rest (key_word d h) ((one front true (key_word d h)).1 h) (parts_word d hs) ((more (length front) back rest (parts_word d hs)).1 hs) left
+            after_whole front back rest (key_word d h) ((one front true (key_word d h)).1 h) (parts_word d hs)
+            ((more (length front) back rest (parts_word d hs)).1 hs) left
 
     pub after_is_times :
         (n : ℕ) → KeysAre first (InKeys d 12 i o) → ((size : ℕ) → KeysAre (rests size) (TimesKeys d 12 n i ((o + size) % 8)))
@@ -42,7 +43,8 @@ module _ (d : DescV) where
             let same : m ≡ n = omega (arith, e) in
             let P : ℕ → Type 0 = λ k. TimesKeys d 12 k i ((o + length front) % 8) back rest in
             let hn = subst P same hs in
-            after_whole front back rest (key_word d h) ((one front true (key_word d h)).1 h) (times_word d hs) ((more (length front) back rest (times_word d hs)).1 hn) left
+            after_whole front back rest (key_word d h) ((one front true (key_word d h)).1 h) (times_word d hs)
+            ((more (length front) back rest (times_word d hs)).1 hn) left
 
   -- ---- one more repetition that gives no new key means that none does
 
@@ -69,7 +71,8 @@ module _ (d : DescV) where
           let P : ℕ → Type 0 = λ k. TimesKeys d 12 k i ((o + length front) % 8) back rest in
           times_whole n refl front back rest h ((stable ((o + length front) % 8) back rest (omega arith)).1 (subst P same hs)) left
 
-  pub stable_for_ever : (i n more : ℕ) → IsStable i n → (o : ℕ) (word : List ℕ) (mark : Bool) → o ≤ 7 → TimesKeys d 12 (more + n) i o word mark ↔ TimesKeys d 12 n i o word mark
+  pub stable_for_ever : (i n more : ℕ) → IsStable i n → (o : ℕ) (word : List ℕ) (mark : Bool)
+      → o ≤ 7 → TimesKeys d 12 (more + n) i o word mark ↔ TimesKeys d 12 n i o word mark
   stable_for_ever i n zero stable o word mark low =
       let none : 0 + n ≡ n = omega arith in
       let P : ℕ → Type 0 = λ k. TimesKeys d 12 k i o word mark ↔ TimesKeys d 12 n i o word mark in

@@ -1,5 +1,7 @@
 -- The steps by which the keys of a product are made.
-use Rattle.std.proofs.Common.{◌≡◌, ℕ, zero, suc, ◌+◌, ◌-◌, ◌*◌, ◌^◌, ◌<◌, ◌≤◌, Bool, true, false, if◌then◌else◌, ◌||◌, nat_eq, List, [], ◌∷◌, ◌++◌, length, take, IsTrue, ◌⊎◌, refl, sym, ap, ◌∙◌, subst, arith, inl, inr, append_assoc, length-append}
+use Rattle.std.proofs.Common.{◌≡◌, ℕ, zero, suc, ◌+◌, ◌-◌, ◌*◌, ◌^◌, ◌<◌, ◌≤◌, Bool, true, false, if◌then◌else◌, ◌||◌}
+use Rattle.std.proofs.Common.{nat_eq, List, [], ◌∷◌, ◌++◌, length, take, IsTrue, ◌⊎◌, refl, sym, ap, ◌∙◌, subst}
+use Rattle.std.proofs.Common.{arith, inl, inr, append_assoc, length-append}
 use Rattle.std.proofs.Math.Nat.{pow-le-pow_right, mul-le-mul_left}
 use Rattle.std.proofs.lemmas.Bool.{cases_lt, or_cases, or_left, or_right}
 use Rattle.std.proofs.lemmas.Nat.{pow-add}
@@ -27,7 +29,8 @@ word_back a b word parts is = bits_back a b (let P : List ℕ → Type 0 = IsBit
 pub word_join : (a b : List ℕ) → IsWord a → IsBits b → length a + length b ≤ 12 → IsWord (a ++ b)
 word_join a b h k short = record { bits = IsBits-append a b h.bits k; short = omega (arith, length-append a b) }
 
-placed : (a : List ℕ) (words number : ℕ) {size : ℕ} (b : List ℕ) → words ≡ 2 ^ size → length b ≡ size → number_of b ≡ number → place_of a * 2 ^ length b + number_of b ≡ place_of a * words + number
+placed : (a : List ℕ) (words number : ℕ) {size : ℕ} (b : List ℕ) → words ≡ 2 ^ size → length b ≡ size
+    → number_of b ≡ number → place_of a * 2 ^ length b + number_of b ≡ place_of a * words + number
 placed a words number b power many writes = rw (many, writes, power) refl
 
 pub key_mark-first : (whole : Bool) → key_mark 0 whole ≤ 8192
@@ -53,7 +56,8 @@ module _ (marks : List ℕ) (plane : ℕ) (first : List ℕ) (size : ℕ) (whole
   abbrev pub Behind : ℕ → List ℕ → Bool → Type 0
   Behind limit word mark = IsBehind marks plane first size limit word × (mark ≡ whole)
 
-  mark_of : (words number : ℕ) (back : List ℕ) → words ≡ 2 ^ size → length back ≡ size → number_of back ≡ number → plane + words + number ≡ plane + place_of back
+  mark_of : (words number : ℕ) (back : List ℕ) → words ≡ 2 ^ size → length back ≡ size → number_of back ≡ number
+      → plane + words + number ≡ plane + place_of back
   mark_of words number back power many writes =
       let same : 2 ^ length back ≡ words = ap (λ n. 2 ^ n) many ∙ sym power in omega arith
 
@@ -65,7 +69,8 @@ module _ (marks : List ℕ) (plane : ℕ) (first : List ℕ) (size : ℕ) (whole
       let n = numbered size number (omega (arith, power)) in
       let room : length first + length n.word ≤ 12 = let many = n.many in omega arith in
       let joined : IsWord (first ++ n.word) = word_join first n.word is n.bits room in
-      let place : place_of (first ++ n.word) ≡ place_of first * words + number = place_of-append first n.word ∙ placed first words number n.word power n.many n.writes in
+      let place : place_of (first ++ n.word) ≡ place_of first * words + number = place_of-append first n.word
+      ∙ placed first words number n.word power n.many n.writes in
       record {
         back = n.word;
         parts = place_of-same word (first ++ n.word) is_word.bits joined.bits (here ∙ sym place);
@@ -108,7 +113,8 @@ module _ (marks : List ℕ) (plane : ℕ) (first : List ℕ) (size : ℕ) (whole
                   elim (or_cases (is_marked old (to + k)) (is_marked marks (plane + words + k)) (sym (c.inside k small) ∙ ap (λ m. is_marked new m) e ∙ h)) [
                     | inl o ↦ inl (ap (λ m. is_marked old m) (sym e) ∙ o)
                     | inr m ↦
-                        let here = place_here mark whole (place_of word) (place_of first) k words (place_of-small word is_word) room small (sym (ap (λ t. t + k) start) ∙ e ∙ named) in
+                        let here = place_here mark whole (place_of word) (place_of first) k words
+                        (place_of-small word is_word) room small (sym (ap (λ t. t + k) start) ∙ e ∙ named) in
                         inr (behind_here words k word is is_word power short small here.1 m, here.0)
                   ]
             ]
@@ -123,17 +129,23 @@ module _ (marks : List ℕ) (plane : ℕ) (first : List ℕ) (size : ℕ) (whole
               | inl inside ↦
                   let k = n - to in
                   let e : to + k ≡ n = omega arith in
-                  ap (λ m. is_marked new m) (sym e) ∙ c.inside k (omega arith) ∙ or_left (is_marked old (to + k)) (is_marked marks (plane + words + k)) (ap (λ m. is_marked old m) e ∙ o)
+                  ap (λ m. is_marked new m) (sym e) ∙ c.inside k (omega arith)
+                  ∙ or_left (is_marked old (to + k)) (is_marked marks (plane + words + k))
+                  (ap (λ m. is_marked old m) e ∙ o)
             ]
           ]
 
       added : (word : List ℕ) (mark : Bool) → IsBehind marks plane first size words word → mark ≡ whole → is_marked new (key_mark (place_of word) mark) ≡ true
       added word mark b same =
           let k = number_of b.back in
-          let place : place_of word ≡ place_of first * words + k = ap place_of b.parts ∙ place_of-append first b.back ∙ placed first words k b.back power b.many refl in
-          let here : to + k ≡ key_mark (place_of word) mark = ap (λ t. t + k) start ∙ key_from whole (place_of first * words) k ∙ ap (λ p. key_mark p whole) (sym place) ∙ ap (λ m. key_mark (place_of word) m) (sym same) in
+          let place : place_of word ≡ place_of first * words + k = ap place_of b.parts ∙ place_of-append first b.back
+          ∙ placed first words k b.back power b.many refl in
+          let here : to + k ≡ key_mark (place_of word) mark = ap (λ t. t + k) start
+          ∙ key_from whole (place_of first * words) k ∙ ap (λ p. key_mark p whole) (sym place)
+          ∙ ap (λ m. key_mark (place_of word) m) (sym same) in
           ap (λ m. is_marked new m) (sym here) ∙ c.inside k b.below
-          ∙ or_right (is_marked old (to + k)) (is_marked marks (plane + words + k)) (ap (λ m. is_marked marks m) (mark_of words k b.back power b.many refl) ∙ b.marked)
+          ∙ or_right (is_marked old (to + k)) (is_marked marks (plane + words + k))
+          (ap (λ m. is_marked marks m) (mark_of words k b.back power b.many refl) ∙ b.marked)
 
 -- ---- the keys of one size
 
@@ -152,7 +164,8 @@ module _ (marks first : List ℕ) (size : ℕ) where
         split = which;
       })
     where
-      which : (word : List ℕ) (mark : Bool) → IsWord word → Level words word mark → Behind marks 0 first size true words word mark ⊎ Behind marks 8192 first size false words word mark
+      which : (word : List ℕ) (mark : Bool) → IsWord word → Level words word mark
+          → Behind marks 0 first size true words word mark ⊎ Behind marks 8192 first size false words word mark
       which word true is h = inl (h, refl)
       which word false is h = inr (h, refl)
 
@@ -195,7 +208,13 @@ module _ (marks first : List ℕ) where
       gains_then old mid new (IsShortBehind marks first size) (Level marks first size words) (IsShortBehind marks first (size + 1)) before level
       (record {
         first = λ word mark is h. record { back = h.back; parts = h.parts; short = (let b = h.short in omega arith); key = h.key };
-        second = λ word mark is h. record { back = h.back; parts = h.parts; short = (let m = h.many in omega arith); key = sym (level_key marks h.back mark) ∙ h.marked };
+        second = λ word mark is h. record {
+          back = h.back;
+          parts = h.parts;
+          short =
+              (let m = h.many in omega arith);
+          key = sym (level_key marks h.back mark) ∙ h.marked;
+        };
         split = λ word mark is h. elim (below_or (length h.back) size h.short) [
           | inl b ↦ inl (record { back = h.back; parts = h.parts; short = b; key = h.key })
           | inr many ↦
@@ -230,7 +249,12 @@ module _ (marks first : List ℕ) where
               mark = s.whole;
               is = s.word;
               key = s.key;
-              left = cut (omega (arith, length-append first (h.0.back ++ s.next ∷ s.back), length-append h.0.back (s.next ∷ s.back))) (h.0.parts ∙ sym left) h.1;
+              left = cut (omega (
+                arith,
+                length-append first (h.0.back ++ s.next ∷ s.back),
+                length-append h.0.back
+                    (s.next ∷ s.back),
+              )) (h.0.parts ∙ sym left) h.1;
             };
         split = λ word mark is h. which word mark is h.back h.mark h.is h.key h.left;
       })
@@ -248,7 +272,8 @@ module _ (marks first : List ℕ) where
           inl (record { back = back; parts = parts; short = omega (arith, length-append first back); key = ap (λ m. has_key marks back m) same ∙ key })
       which word mark is back whole is_back key (cut long parts same) =
           let s = split_at room back (omega (arith, length-append first back)) in
-          let front : word ≡ first ++ s.front = parts ∙ ap (λ l. take 12 (first ++ l)) s.parts ∙ whole_front first s.front (s.next ∷ s.back) (omega (arith, s.many)) in
+          let front : word ≡ first ++ s.front = parts ∙ ap (λ l. take 12 (first ++ l)) s.parts
+          ∙ whole_front first s.front (s.next ∷ s.back) (omega (arith, s.many)) in
           let bits : IsBits s.front = word_back first s.front word front is in
           let small : number_of s.front < 2 ^ length s.front = number_of-lt s.front bits in
           let sizes : 2 ^ length s.front ≡ words = ap (λ n. 2 ^ n) s.many ∙ sym power in
@@ -261,7 +286,15 @@ module _ (marks first : List ℕ) where
               parts = front;
               many = s.many;
               below = omega arith;
-              marked = (table.starts s.front (record { bits = bits; short = omega arith })).1 (record { next = s.next; back = s.back; whole = whole; word = subst P s.parts is_back; key = subst Q s.parts key });
+              marked = (table.starts s.front (record { bits = bits; short = omega arith })).1
+                  (record {
+                    next = s.next;
+                    back = s.back;
+                    whole = whole;
+                    word = subst P s.parts is_back;
+                    key =
+                        subst Q s.parts key;
+                  });
             },
             same,
           )
@@ -286,7 +319,8 @@ module _ (first rest : List ℕ) (size : ℕ) where
   pub after_none : (old : List ℕ) → Gains old old (IsAfter first rest size 0)
   after_none old = gains_none old (IsAfter first rest size 0) (λ word mark is h. let b = h.below in omega arith)
 
-  after_more : (number : ℕ) (word : List ℕ) (mark : Bool) → IsWord word → IsAfter first rest size number word mark → IsAfter first rest size (number + 1) word mark
+  after_more : (number : ℕ) (word : List ℕ) (mark : Bool) → IsWord word → IsAfter first rest size number word mark
+      → IsAfter first rest size (number + 1) word mark
   after_more number word mark is h =
       let b = h.below in
       record { front = h.front; is = h.is; many = h.many; below = omega arith; key = h.key; behind = h.behind }
@@ -380,7 +414,8 @@ module _ (first : List ℕ) (rests : ℕ → List ℕ) where
       })
 
   pub below_all : (limit : ℕ) (old new : List ℕ) → limit ≡ 13 → Gains old new (AfterBelow first rests limit) → Gains old new (AfterKeys first rests)
-  below_all limit old new all e = gains_same old new (AfterBelow first rests limit) (AfterKeys first rests) e (λ word mark is h. to word mark h.size h.key) from
+  below_all limit old new all e = gains_same old new (AfterBelow first rests limit) (AfterKeys first rests) e
+      (λ word mark is h. to word mark h.size h.key) from
     where
       to : (word : List ℕ) (mark : Bool) (size : ℕ) → AtSize first (rests size) size word mark → AfterKeys first rests word mark
       to word mark size (inl h) = after_cut (ap (λ w. has_key first w false) h.0.parts ∙ h.0.marked) h.1
@@ -391,13 +426,36 @@ module _ (first : List ℕ) (rests : ℕ → List ℕ) where
       from : (word : List ℕ) (mark : Bool) → IsWord word → AfterKeys first rests word mark → AfterBelow first rests limit word mark
       from word mark is (after_cut key same) =
           let short = is.short in
-          record { size = length word; below = omega arith; key = inl (record { back = word; parts = refl; many = refl; below = number_of-lt word is.bits; marked = key }, same) }
+          record {
+            size = length word;
+            below = omega arith;
+            key =
+                inl (
+                  record { back = word; parts = refl; many = refl; below = number_of-lt word is.bits; marked = key },
+                  same,
+                );
+          }
       from word mark is (after_whole front back whole is_front key is_back behind left) =
           let short = is_front.short in
           record {
             size = length front;
             below = omega arith;
-            key = inr (record { front = front; is = is_front; many = refl; below = number_of-lt front is_front.bits; key = key; behind = record { back = back; mark = whole; is = is_back; key = behind; left = left } });
+            key = inr (record {
+              front = front;
+              is = is_front;
+              many = refl;
+              below =
+                  number_of-lt front is_front.bits;
+              key = key;
+              behind = record {
+                back = back;
+                mark = whole;
+                is =
+                    is_back;
+                key = behind;
+                left = left;
+              };
+            });
           }
 
 -- ---- all words of one size

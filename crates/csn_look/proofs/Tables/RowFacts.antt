@@ -1,5 +1,7 @@
 -- Rows of tables of keys: tables stay when others are kept, and a row is filled place by place.
-use Rattle.std.proofs.Common.{◌≡◌, ◌≢◌, ℕ, ◌+◌, ◌%◌, ◌<◌, ◌≤◌, ◌⊎◌, ◌↔◌, Bool, true, false, List, [], ◌++◌, length, get_or, set, sym, ap, ◌∙◌, subst, arith, inl, inr, append_assoc, append-nil, length-append, length-set, get_or-set_same, get_or-set_other}
+use Rattle.std.proofs.Common.{◌≡◌, ◌≢◌, ℕ, ◌+◌, ◌%◌, ◌<◌, ◌≤◌, ◌⊎◌, ◌↔◌, Bool, true, false, List, [], ◌++◌, length}
+use Rattle.std.proofs.Common.{get_or, set, sym, ap, ◌∙◌, subst, arith, inl, inr, append_assoc, append-nil}
+use Rattle.std.proofs.Common.{length-append, length-set, get_or-set_same, get_or-set_other}
 use Rattle.std.specs.Prelude.{IsTrue, Result, IfOk}
 use Rattle.std.proofs.lemmas.List.{get_or_append_left}
 use Rattle.std.proofs.lemmas.Bool.{cases_order}
@@ -10,7 +12,8 @@ use Rattle.csn_look.specs.KeyProducts.{AfterKeys, after_cut, after_whole}
 
 -- ---- sets of keys
 
-pub keys_as : (marks : List ℕ) (P Q : List ℕ → Bool → Type 0) → KeysAre marks P → ((word : List ℕ) (mark : Bool) → IsWord word → P word mark ↔ Q word mark) → KeysAre marks Q
+pub keys_as : (marks : List ℕ) (P Q : List ℕ → Bool → Type 0)
+    → KeysAre marks P → ((word : List ℕ) (mark : Bool) → IsWord word → P word mark ↔ Q word mark) → KeysAre marks Q
 keys_as marks P Q are same = λ word mark is.
     let a = are word mark is in
     let s = same word mark is in
@@ -57,7 +60,10 @@ row_stays old new row P more h = record { eight = h.eight; keys = λ o low. has_
 pub row_tables : (tables : List (List ℕ)) (row : List ℕ) (P : ℕ → List ℕ → Bool → Type 0) → HasRow tables row P → AreTables tables row
 row_tables tables row P h = λ o low. (h.keys o low).within
 
-pub row_as : (tables : List (List ℕ)) (row : List ℕ) (P Q : ℕ → List ℕ → Bool → Type 0) → HasRow tables row P → ((o : ℕ) (word : List ℕ) (mark : Bool) → o ≤ 7 → IsWord word → P o word mark ↔ Q o word mark) → HasRow tables row Q
+pub row_as : (tables : List (List ℕ)) (row : List ℕ) (P Q : ℕ → List ℕ → Bool → Type 0)
+    → HasRow tables row P
+    → ((o : ℕ) (word : List ℕ) (mark : Bool) → o ≤ 7 → IsWord word → P o word mark ↔ Q o word mark)
+    → HasRow tables row Q
 row_as tables row P Q h same = record {
   eight = h.eight;
   keys = λ o low.
@@ -65,17 +71,22 @@ row_as tables row P Q h same = record {
       record { within = t.within; keys = keys_as (table_of tables (get_or row o 0)) (P o) (Q o) t.keys (λ word mark is. same o word mark low is) };
 }
 
-pub makes_as : (old new : List (List ℕ)) (row : List ℕ) (P Q : ℕ → List ℕ → Bool → Type 0) → Makes old new row P → ((o : ℕ) (word : List ℕ) (mark : Bool) → o ≤ 7 → IsWord word → P o word mark ↔ Q o word mark) → Makes old new row Q
+pub makes_as : (old new : List (List ℕ)) (row : List ℕ) (P Q : ℕ → List ℕ → Bool → Type 0)
+    → Makes old new row P
+    → ((o : ℕ) (word : List ℕ) (mark : Bool) → o ≤ 7 → IsWord word → P o word mark ↔ Q o word mark)
+    → Makes old new row Q
 makes_as old new row P Q h same = record { more = h.more; has = row_as new row P Q h.has same }
 
 -- a table that was kept
-pub kept_table : (old new : List (List ℕ)) (at : ℕ) (marks : List ℕ) (P : List ℕ → Bool → Type 0) → IsMore old new → at < length new → table_of new at ≡ marks → KeysAre marks P → MakesTable old new at P
+pub kept_table : (old new : List (List ℕ)) (at : ℕ) (marks : List ℕ) (P : List ℕ → Bool → Type 0)
+    → IsMore old new → at < length new → table_of new at ≡ marks → KeysAre marks P → MakesTable old new at P
 kept_table old new at marks P more inside same are =
     let Q : List ℕ → Type 0 = λ m. KeysAre m P in
     record { more = more; table = record { within = inside; keys = subst Q (sym same) are } }
 
 -- one table at each octet position
-same_row : (old new : List (List ℕ)) (row marks : List ℕ) (P : ℕ → List ℕ → Bool → Type 0) → ((o : ℕ) → o ≤ 7 → KeysAre marks (P o)) → IsSameRow old new row marks → Makes old new row P
+same_row : (old new : List (List ℕ)) (row marks : List ℕ) (P : ℕ → List ℕ → Bool → Type 0)
+    → ((o : ℕ) → o ≤ 7 → KeysAre marks (P o)) → IsSameRow old new row marks → Makes old new row P
 same_row old new row marks P are h = record {
   more = h.more;
   has = record {
@@ -92,7 +103,9 @@ pub same_tables :
 same_tables r old new marks P are h =
     IfOk-weaker r (λ row. IsSameRow old new row marks) (λ row. Makes old new row P) (λ row is. same_row old new row marks P are is) h
 
-pub makes_same : (old new : List (List ℕ)) (row : List ℕ) (at : ℕ) (P : ℕ → List ℕ → Bool → Type 0) → length row ≡ 8 → ((o : ℕ) → o ≤ 7 → get_or row o 0 ≡ at) → IsMore old new → ((o : ℕ) → o ≤ 7 → HasTable new at (P o)) → Makes old new row P
+pub makes_same : (old new : List (List ℕ)) (row : List ℕ) (at : ℕ) (P : ℕ → List ℕ → Bool → Type 0)
+    → length row ≡ 8 → ((o : ℕ) → o ≤ 7 → get_or row o 0 ≡ at)
+    → IsMore old new → ((o : ℕ) → o ≤ 7 → HasTable new at (P o)) → Makes old new row P
 makes_same old new row at P eight same more has = record {
   more = more;
   has = record {
@@ -102,7 +115,8 @@ makes_same old new row at P eight same more has = record {
 }
 
 -- what a row of one table has at its first place it has everywhere
-pub row_alike : (tables : List (List ℕ)) (row : List ℕ) (P : ℕ → List ℕ → Bool → Type 0) → HasRow tables row P → ((o : ℕ) → o ≤ 7 → get_or row o 0 ≡ get_or row 0 0)
+pub row_alike : (tables : List (List ℕ)) (row : List ℕ) (P : ℕ → List ℕ → Bool → Type 0)
+    → HasRow tables row P → ((o : ℕ) → o ≤ 7 → get_or row o 0 ≡ get_or row 0 0)
     → (o : ℕ) (word : List ℕ) (mark : Bool) → o ≤ 7 → IsWord word → P 0 word mark ↔ P o word mark
 row_alike tables row P has same o word mark low is =
     let Q : ℕ → Type 0 = λ n. KeysAre (table_of tables n) (P o) in
@@ -120,7 +134,9 @@ pub record RowBelow (old new : List (List ℕ)) (row : List ℕ) (end : ℕ) (P 
 pub row_none : (old : List (List ℕ)) (row : List ℕ) (P : ℕ → List ℕ → Bool → Type 0) → length row ≡ 8 → RowBelow old old row 0 P
 row_none old row P eight = record { more = more_none old; eight = eight; keys = λ o low. absurd (omega arith) }
 
-pub row_next : (old mid new : List (List ℕ)) (row : List ℕ) (end at : ℕ) (P : ℕ → List ℕ → Bool → Type 0) → end < 8 → RowBelow old mid row end P → MakesTable mid new at (P end) → RowBelow old new (set row end at) (end + 1) P
+pub row_next : (old mid new : List (List ℕ)) (row : List ℕ) (end at : ℕ) (P : ℕ → List ℕ → Bool → Type 0)
+    → end < 8 → RowBelow old mid row end P → MakesTable mid new at (P end)
+    → RowBelow old new (set row end at) (end + 1) P
 row_next old mid new row end at P inside before next = record {
   more = more_then old mid new before.more next.more;
   eight = length-set row end at ∙ before.eight;
@@ -147,7 +163,9 @@ row_all old new row end P all h = record { more = h.more; has = record { eight =
 
 -- ---- one part after another
 
-pub after_as : {word : List ℕ} {mark : Bool} (first other : List ℕ) (rests others : ℕ → List ℕ) → first ≡ other → ((size : ℕ) → rests size ≡ others size) → AfterKeys first rests word mark → AfterKeys other others word mark
+pub after_as : {word : List ℕ} {mark : Bool} (first other : List ℕ) (rests others : ℕ → List ℕ)
+    → first ≡ other → ((size : ℕ) → rests size ≡ others size) → AfterKeys first rests word mark
+    → AfterKeys other others word mark
 after_as {word} {mark} first other rests others e f (after_cut key same) =
     let P : List ℕ → Type 0 = λ l. IsTrue (has_key l word false) in
     after_cut (subst P e key) same
@@ -196,15 +214,23 @@ after_at start mid new first rest turned o at low more one two seen h = record {
 
 -- the product of two rows of one table is one table
 pub after_same :
-    (old new : List (List ℕ)) (first rest : List ℕ) (at o : ℕ) → o ≤ 7 → ((p : ℕ) → p ≤ 7 → get_or first p 0 ≡ get_or first 0 0) → ((p : ℕ) → p ≤ 7 → get_or rest p 0 ≡ get_or rest 0 0)
-    → HasTable new at (AfterKeys (table_of old (get_or first 0 0)) (λ size. table_of old (get_or rest (size % 8) 0))) → HasTable new at (RowAfter old first rest o)
+    (old new : List (List ℕ)) (first rest : List ℕ) (at o : ℕ)
+    → o ≤ 7 → ((p : ℕ) → p ≤ 7 → get_or first p 0 ≡ get_or first 0 0)
+    → ((p : ℕ) → p ≤ 7 → get_or rest p 0 ≡ get_or rest 0 0)
+    → HasTable new at (AfterKeys (table_of old (get_or first 0 0)) (λ size. table_of old (get_or rest (size % 8) 0)))
+    → HasTable new at (RowAfter old first rest o)
 after_same old new first rest at o low one two h = record {
   within = h.within;
   keys =
-      keys_as (table_of new at) (AfterKeys (table_of old (get_or first 0 0)) (λ size. table_of old (get_or rest (size % 8) 0))) (RowAfter old first rest o) h.keys
+      keys_as (table_of new at) (AfterKeys (table_of old (get_or first 0 0))
+      (λ size. table_of old (get_or rest (size % 8) 0))) (RowAfter old first rest o) h.keys
       (λ word mark is. (
-        (λ k. after_as (table_of old (get_or first 0 0)) (table_of old (get_or first o 0)) (λ size. table_of old (get_or rest (size % 8) 0)) (λ size. table_of old (get_or rest ((o + size) % 8) 0)) same each k),
-        (λ k. after_as (table_of old (get_or first o 0)) (table_of old (get_or first 0 0)) (λ size. table_of old (get_or rest ((o + size) % 8) 0)) (λ size. table_of old (get_or rest (size % 8) 0)) (sym same) (λ size. sym (each size)) k),
+        (λ k. after_as (table_of old (get_or first 0 0)) (table_of old (get_or first o 0))
+            (λ size. table_of old (get_or rest (size % 8) 0)) (λ size. table_of old (get_or rest ((o + size) % 8) 0))
+            same each k),
+        (λ k. after_as (table_of old (get_or first o 0)) (table_of old (get_or first 0 0))
+            (λ size. table_of old (get_or rest ((o + size) % 8) 0)) (λ size. table_of old (get_or rest (size % 8) 0))
+            (sym same) (λ size. sym (each size)) k),
       ));
 }
   where

@@ -1,5 +1,7 @@
 -- The keys of each kind of node, as tables and rows of them are made.
-use Rattle.std.proofs.Common.{◌≡◌, ℕ, zero, suc, ◌+◌, ◌-◌, ◌*◌, ◌%◌, ◌<◌, ◌≤◌, ◌⊎◌, ◌↔◌, Bool, true, false, List, [], ◌∷◌, ◌++◌, length, get_or, take, nat_le, min, refl, sym, ap, ◌∙◌, subst, arith, inl, inr, Some, length-append}
+use Rattle.std.proofs.Common.{◌≡◌, ℕ, zero, suc, ◌+◌, ◌-◌, ◌*◌, ◌%◌, ◌<◌, ◌≤◌, ◌⊎◌, ◌↔◌, Bool, true, false, List, []}
+use Rattle.std.proofs.Common.{◌∷◌, ◌++◌, length, get_or, take, nat_le, min, refl, sym, ap, ◌∙◌, subst, arith, inl}
+use Rattle.std.proofs.Common.{inr, Some, length-append}
 use Rattle.std.specs.Prelude.{IsTrue, slice_get}
 use Rattle.std.proofs.Math.ListN.{replicate}
 use Rattle.std.proofs.lemmas.Bool.Decides.{leb_tells}
@@ -15,7 +17,10 @@ use Rattle.csn_desc.specs.declared.node.Count.TheVariants.{Fixed, Counted}
 use Rattle.csn_desc.specs.declared.node.Node.TheVariants.{Lits, Spare, Pad, Null, Field, Rest, Seq, Choice, Times, Many, Trunc, Window, Named}
 use Rattle.csn_desc.specs.Nodes.{DescV}
 use Rattle.csn_desc.specs.Spelled.{symbol_bit, spelled, IsSpare}
-use Rattle.csn_look.specs.Keys.{Cut, kept, cut, InKeys, NodeKeys, PartsKeys, TimesKeys, keys_lits, keys_spare, keys_field, keys_pad, keys_null, keys_rest, keys_many, keys_trunc, keys_window, keys_counted_field, keys_counted_times, keys_seq, keys_times, keys_choice, keys_named, parts_none, times_none, times_cut, times_whole}
+use Rattle.csn_look.specs.Keys.{Cut, kept, cut, InKeys, NodeKeys, PartsKeys, TimesKeys, keys_lits, keys_spare}
+use Rattle.csn_look.specs.Keys.{keys_field, keys_pad, keys_null, keys_rest, keys_many, keys_trunc, keys_window}
+use Rattle.csn_look.specs.Keys.{keys_counted_field, keys_counted_times, keys_seq, keys_times, keys_choice, keys_named}
+use Rattle.csn_look.specs.Keys.{parts_none, times_none, times_cut, times_whole}
 use Rattle.csn_look.specs.KeyMarks.{IsWord, has_key, KeysAre, Adds}
 use Rattle.csn_look.specs.KeyRows.{table_of, HasRow, RowAfter, IsSpareKey, AreAlike}
 use Rattle.csn_look.proofs.Basics.Below.{below_or}
@@ -62,7 +67,8 @@ lits_keys d run o size word whole is len all x mark = (
     from (keys_lits c) = let h = cut_from (spelled run o) x mark c in (h.0 ∙ sym is, h.1 ∙ sym fits)
 
 -- the bits of a literal one after another
-pub spelled_next : (run : List Symbol) (o at place : ℕ) (s : Symbol) → place ≡ o + at → slice_get run at ≡ Some s → take (suc at) (spelled run o) ≡ take at (spelled run o) ++ symbol_bit s place ∷ []
+pub spelled_next : (run : List Symbol) (o at place : ℕ) (s : Symbol) → place ≡ o + at → slice_get run at ≡ Some s
+    → take (suc at) (spelled run o) ≡ take at (spelled run o) ++ symbol_bit s place ∷ []
 spelled_next [] o at place s here there = cc
 spelled_next (t ∷ run) o zero place s here there =
     let same : t ≡ s = cc in
@@ -71,7 +77,9 @@ spelled_next (t ∷ run) o zero place s here there =
 spelled_next (t ∷ run) o (suc at) place s here there = ap (λ l. symbol_bit t o ∷ l) (spelled_next run (suc o) at place s (omega (arith, here)) there)
 
 pub spelled_push :
-    (run : List Symbol) (o at bit : ℕ) (s : Symbol) (word new : List ℕ) → slice_get run at ≡ Some s → bit ≡ symbol_bit s ((o + at) % 8) → word ≡ take at (spelled run o) → new ≡ word ++ bit ∷ []
+    (run : List Symbol) (o at bit : ℕ) (s : Symbol) (word new : List ℕ)
+    → slice_get run at ≡ Some s → bit ≡ symbol_bit s ((o + at) % 8) → word ≡ take at (spelled run o)
+    → new ≡ word ++ bit ∷ []
     → new ≡ take (at + 1) (spelled run o)
 spelled_push run o at bit s word new there is before pushed =
     let next : suc at ≡ at + 1 = omega arith in
@@ -96,11 +104,14 @@ spelled_all run o at size is low high =
 -- ---- spare bits
 
 -- one that is received may be either bit
-pub received_spare : (symbol : Symbol) (whole : Bool) (o : ℕ) (word : List ℕ) (mark : Bool) → IsWord word → ((length word ≡ 1) × (mark ≡ whole)) ↔ IsSpareKey Received symbol whole o word mark
+pub received_spare : (symbol : Symbol) (whole : Bool) (o : ℕ) (word : List ℕ) (mark : Bool)
+    → IsWord word → ((length word ≡ 1) × (mark ≡ whole)) ↔ IsSpareKey Received symbol whole o word mark
 received_spare symbol whole o word mark is = ((λ h. (h.0, is.bits, h.1)), (λ h. (h.0, h.2)))
 
 -- and one that is sent is its symbol's
-pub sent_spare : (symbol : Symbol) (whole : Bool) (o bit : ℕ) → bit ≡ symbol_bit symbol o → (word : List ℕ) (mark : Bool) → IsWord word → ((word ≡ bit ∷ []) × (mark ≡ whole)) ↔ IsSpareKey Sent symbol whole o word mark
+pub sent_spare : (symbol : Symbol) (whole : Bool) (o bit : ℕ)
+    → bit ≡ symbol_bit symbol o → (word : List ℕ) (mark : Bool)
+    → IsWord word → ((word ≡ bit ∷ []) × (mark ≡ whole)) ↔ IsSpareKey Sent symbol whole o word mark
 sent_spare symbol whole o bit told word mark is = (
   (λ h.
       let one : word ≡ symbol_bit symbol o ∷ [] = h.0 ∙ ap (λ b. b ∷ []) told in
@@ -283,7 +294,8 @@ module _ (d : DescV) (parts : List ℕ) (o : ℕ) where
     pub key : InKeys d 12 part o word mark
 
   pub choice_none : (marks : List ℕ) → KeysAre marks (λ word mark. ⊥) → KeysAre marks (ChoiceBelow 0)
-  choice_none marks none = keys_as marks (λ word mark. ⊥) (ChoiceBelow 0) none (λ word mark is. (λ no. absurd no, λ h. let b = h.below in absurd (omega arith)))
+  choice_none marks none = keys_as marks (λ word mark. ⊥) (ChoiceBelow 0) none
+      (λ word mark is. (λ no. absurd no, λ h. let b = h.below in absurd (omega arith)))
 
   pub choice_next :
       (old new other : List ℕ) (place part : ℕ) → slice_get parts place ≡ Some part → KeysAre old (ChoiceBelow place) → KeysAre other (InKeys d 12 part o)
@@ -311,10 +323,13 @@ module _ (d : DescV) (parts : List ℕ) (o : ℕ) where
       keys_as marks (ChoiceBelow limit) (NodeKeys d 12 (Choice parts) o) are (λ word mark is. (λ s. keys_choice s.place s.at s.key, from word mark))
     where
       from : (word : List ℕ) (mark : Bool) → NodeKeys d 12 (Choice parts) o word mark → ChoiceBelow limit word mark
-      from word mark (keys_choice {i = i} j at key) = let inside = slice_get_within parts j i at in record { place = j; part = i; below = omega arith; at = at; key = key }
+      from word mark (keys_choice {i = i} j at key) = let inside = slice_get_within parts j i at in
+          record { place = j; part = i; below = omega arith; at = at; key = key }
 
 -- parts that are alike at all octet positions make one that is
-pub choice_alike : (d : DescV) (parts marks : List ℕ) → AreAlike d parts → KeysAre marks (NodeKeys d 12 (Choice parts) 0) → (o : ℕ) → o ≤ 7 → KeysAre marks (NodeKeys d 12 (Choice parts) o)
+pub choice_alike : (d : DescV) (parts marks : List ℕ)
+    → AreAlike d parts → KeysAre marks (NodeKeys d 12 (Choice parts) 0) → (o : ℕ)
+    → o ≤ 7 → KeysAre marks (NodeKeys d 12 (Choice parts) o)
 choice_alike d parts marks alike are o low =
     keys_as marks (NodeKeys d 12 (Choice parts) 0) (NodeKeys d 12 (Choice parts) o) are (λ word mark is. (to word mark is, from word mark is))
   where
@@ -325,7 +340,9 @@ choice_alike d parts marks alike are o low =
     from word mark is (keys_choice {i = i} j at key) = keys_choice j at ((alike j i o word mark at low is).1 key)
 
 -- one part more is alike
-pub alike_next : (d : DescV) (tables : List (List ℕ)) (parts row : List ℕ) (at part : ℕ) → slice_get parts at ≡ Some part → HasRow tables row (InKeys d 12 part) → ((o : ℕ) → o ≤ 7 → get_or row o 0 ≡ get_or row 0 0)
+pub alike_next : (d : DescV) (tables : List (List ℕ)) (parts row : List ℕ) (at part : ℕ)
+    → slice_get parts at ≡ Some part → HasRow tables row (InKeys d 12 part)
+    → ((o : ℕ) → o ≤ 7 → get_or row o 0 ≡ get_or row 0 0)
     → AreAlikeBelow d parts at → AreAlikeBelow d parts (at + 1)
 alike_next d tables parts row at part there has same before = λ j i o word mark below is_part low is.
     elim (below_or j at below) [

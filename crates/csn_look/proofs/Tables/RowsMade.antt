@@ -1,5 +1,7 @@
 -- The rows of all nodes, made from the last node to the first, and those of repetitions.
-use Rattle.std.proofs.Common.{◌≡◌, ◌≢◌, ℕ, suc, ◌+◌, ◌-◌, ◌<◌, ◌≤◌, ◌↔◌, Bool, List, [], ◌∷◌, length, get_or, set, refl, sym, ap, ◌∙◌, subst, arith, inl, inr, Some, length-set, get_or-set_same, get_or-set_other}
+use Rattle.std.proofs.Common.{◌≡◌, ◌≢◌, ℕ, suc, ◌+◌, ◌-◌, ◌<◌, ◌≤◌, ◌↔◌, Bool, List, [], ◌∷◌, length, get_or, set}
+use Rattle.std.proofs.Common.{refl, sym, ap, ◌∙◌, subst, arith, inl, inr, Some, length-set, get_or-set_same}
+use Rattle.std.proofs.Common.{get_or-set_other}
 use Rattle.std.specs.Prelude.{slice_get, IfOk, Result}
 use Rattle.std.proofs.lemmas.Result.{IfOk-weaker}
 use Rattle.std.proofs.lemmas.Bool.{cases_order}
@@ -28,7 +30,8 @@ module _ (d : DescV) where
       (row_times d mid once row i n (row_stays start mid once (InKeys d 12 i) longer one) before)
 
   stable_at :
-      (tables : List (List ℕ)) (row : List ℕ) (i n : ℕ) → HasRow tables row (TimesKeys d 12 n i) → HasRow tables row (TimesKeys d 12 (suc n) i) → IsStable d i n
+      (tables : List (List ℕ)) (row : List ℕ) (i n : ℕ) → HasRow tables row (TimesKeys d 12 n i)
+      → HasRow tables row (TimesKeys d 12 (suc n) i) → IsStable d i n
   stable_at tables row i n these those = λ o word mark low. (
     (λ h.
         let is = times_word d h in
@@ -39,7 +42,8 @@ module _ (d : DescV) where
   )
 
   pub times_stand :
-      (tables : List (List ℕ)) (row : List ℕ) (i n total : ℕ) → n ≤ total → HasRow tables row (TimesKeys d 12 n i) → HasRow tables row (TimesKeys d 12 (suc n) i)
+      (tables : List (List ℕ)) (row : List ℕ) (i n total : ℕ) → n ≤ total → HasRow tables row (TimesKeys d 12 n i)
+      → HasRow tables row (TimesKeys d 12 (suc n) i)
       → HasRow tables row (TimesKeys d 12 total i)
   times_stand tables row i n total few these those =
       let all : (total - n) + n ≡ total = omega arith in
@@ -57,7 +61,8 @@ module _ (d : DescV) where
   rowed_stays old new rows i more (row, at, has) = (row, at, row_stays old new row (InKeys d 12 i) more has)
 
   pub parts_next :
-      (start mid new : List (List ℕ)) (first row more : List ℕ) (i : ℕ) (parts : List ℕ) → HasRow mid first (InKeys d 12 i) → Makes start mid row (PartsKeys d 12 parts)
+      (start mid new : List (List ℕ)) (first row more : List ℕ) (i : ℕ) (parts : List ℕ)
+      → HasRow mid first (InKeys d 12 i) → Makes start mid row (PartsKeys d 12 parts)
       → Makes mid new more (RowAfter mid first row) → Makes start new more (PartsKeys d 12 (i ∷ parts))
   parts_next start mid new first row more i parts one before m = record {
     more = more_then start mid new before.more m.more;
@@ -67,7 +72,8 @@ module _ (d : DescV) where
   -- ---- all nodes
 
   pub node_row :
-      (tables : List (List ℕ)) (row : List ℕ) (i : ℕ) (n : Node) → slice_get d.nodes i ≡ Some n → HasRow tables row (NodeKeys d 12 n) → HasRow tables row (InKeys d 12 i)
+      (tables : List (List ℕ)) (row : List ℕ) (i : ℕ) (n : Node) → slice_get d.nodes i ≡ Some n
+      → HasRow tables row (NodeKeys d 12 n) → HasRow tables row (InKeys d 12 i)
   node_row tables row i n at has =
       row_as tables row (NodeKeys d 12 n) (InKeys d 12 i) has (λ o word mark low is. ((λ h. keys_at n at h), (λ h. from h)))
     where
@@ -86,20 +92,30 @@ module _ (d : DescV) where
             let inside : j < length rows = omega arith in
             let P : ℕ → Type 0 = λ k. IsRowed d new (set rows k row) j in
             let Q : ℕ → Type 0 = λ k. HasRow new row (InKeys d 12 k) in
-            subst P (sym here)
-            (row, slice_get-get_or (set rows j row) j row (omega (arith, length-set rows j row)) ∙ ap (λ s. Some s) (get_or-set_same rows j row row inside), subst Q here has)
+            subst P (sym here) (
+              row,
+              slice_get-get_or (set rows j row) j row (omega (arith, length-set rows j row))
+                  ∙ ap (λ s. Some s) (get_or-set_same rows j row row inside),
+              subst Q here has,
+            )
         | inr apart ↦ elim apart [
           | inl after ↦
               let k = later j after high in
-              let differ : j ≢ i = omega (arith, after) in
-              (k.0, slice_get-get_or (set rows i row) j k.0 (omega (arith, length-set rows i row)) ∙ ap (λ s. Some s) (get_or-set_other rows i j row k.0 differ ∙ get_or_from_slice_get rows j k.0 k.0 k.1), row_stays tables new k.0 (InKeys d 12 j) more k.2)
+              let differ : j ≢ i = omega (arith, after) in (
+                k.0,
+                slice_get-get_or (set rows i row) j k.0 (omega (arith, length-set rows i row))
+                    ∙ ap (λ s. Some s) (get_or-set_other rows i j row k.0 differ ∙ get_or_from_slice_get rows j k.0 k.0
+                    k.1),
+                row_stays tables new k.0 (InKeys d 12 j) more k.2,
+              )
           | inr before ↦ absurd (omega (arith, low, before))
         ]
       ]
 
   -- ---- what is kept of a description
 
-  pub keys_of : (sets : List NodeSets) (tables rows : List (List ℕ)) → HasRows d tables rows → IsKeysOf d (record { sets = sets; tables = tables; rows = rows })
+  pub keys_of : (sets : List NodeSets) (tables rows : List (List ℕ))
+      → HasRows d tables rows → IsKeysOf d (record { sets = sets; tables = tables; rows = rows })
   keys_of sets tables rows has = record {
     same = has.same;
     keys = λ i o inside low.
@@ -135,10 +151,12 @@ module _ (d : DescV) where
       → IfOk r (λ row. Makes old new row (NodeKeys d 12 kind)) → IfOk r (λ row. Makes old new row (NodeKeys d 12 node))
   gives_node r old new node kind is h = gives_as r old new (NodeKeys d 12 kind) node kind is (λ o word mark. ((λ k. k), (λ k. k))) h
 
-  pub rowed_parts : (tables rows : List (List ℕ)) (node kind : Node) → node ≡ kind → AreRowed d tables rows (parts_of node) → AreRowed d tables rows (parts_of kind)
+  pub rowed_parts : (tables rows : List (List ℕ)) (node kind : Node)
+      → node ≡ kind → AreRowed d tables rows (parts_of node) → AreRowed d tables rows (parts_of kind)
   rowed_parts tables rows node kind is h = let P : Node → Type 0 = λ n. AreRowed d tables rows (parts_of n) in subst P is h
 
-  pub rowed_part : (tables rows : List (List ℕ)) (node kind : Node) (p : ℕ) → node ≡ kind → parts_of kind ≡ p ∷ [] → AreRowed d tables rows (parts_of node) → IsRowed d tables rows p
+  pub rowed_part : (tables rows : List (List ℕ)) (node kind : Node) (p : ℕ) → node ≡ kind → parts_of kind ≡ p ∷ []
+      → AreRowed d tables rows (parts_of node) → IsRowed d tables rows p
   rowed_part tables rows node kind p is one h =
       let P : List ℕ → Type 0 = λ parts. AreRowed d tables rows parts in
       subst P one (rowed_parts tables rows node kind is h) 0 p refl

@@ -23,7 +23,9 @@ sizes_first marks plane = record {
   few = λ size less. absurd (omega arith);
   many = λ size low high.
       let from_six : 6 + (size - 6) ≡ size = omega (arith, low) in
-      ap (λ n. bit_at 8128 n) (sym from_six) ∙ eqb-true _ _ (agree_below_at (λ n. bit_at 8128 (6 + n) == 1) (λ _. true) 7 (size - 6) refl (omega (arith, high)));
+      ap (λ n. bit_at 8128 n) (sym from_six)
+      ∙ eqb-true _ _ (agree_below_at (λ n. bit_at 8128 (6 + n) == 1) (λ _. true) 7 (size - 6) refl
+      (omega (arith, high)));
 }
 
 set_by : (a b c : ℕ) → c ≡ max a b → a < 2 → b < 2 → c ≡ 0 → (a ≡ 0) × (b ≡ 0)
@@ -33,20 +35,27 @@ still_set : (a b c : ℕ) → c ≡ max a b → a ≡ 1 → b < 2 → c ≡ 1
 still_set a b c e f g = omega (arith, e, f)
 
 -- one size more, which is set
-pub sizes_set : (marks : List ℕ) (plane sizes size words : ℕ) → words ≡ 2 ^ size → AreSizes marks plane sizes size → AreSizes marks plane (bit_or sizes words) (size + 1)
+pub sizes_set : (marks : List ℕ) (plane sizes size words : ℕ) → words ≡ 2 ^ size → AreSizes marks plane sizes size
+    → AreSizes marks plane (bit_or sizes words) (size + 1)
 sizes_set marks plane sizes size words power before = record {
   few = λ other less unset k small. elim (below_or other size less) [
-    | inl low ↦ before.few other low (set_by (bit_at sizes other) (bit_at words other) (bit_at (bit_or sizes words) other) (bit_at_or sizes words other) (bit_at-lt sizes other) (bit_at-lt words other) unset).0 k small
+    | inl low ↦ before.few other low (set_by (bit_at sizes other) (bit_at words other)
+        (bit_at (bit_or sizes words) other) (bit_at_or sizes words other) (bit_at-lt sizes other)
+        (bit_at-lt words other) unset).0 k small
     | inr same ↦
-        let none = (set_by (bit_at sizes other) (bit_at words other) (bit_at (bit_or sizes words) other) (bit_at_or sizes words other) (bit_at-lt sizes other) (bit_at-lt words other) unset).1 in
+        let none = (set_by (bit_at sizes other) (bit_at words other) (bit_at (bit_or sizes words) other)
+        (bit_at_or sizes words other) (bit_at-lt sizes other) (bit_at-lt words other) unset).1 in
         let set : bit_at words other ≡ 1 = ap (λ n. bit_at n other) power ∙ ap (λ s. bit_at (2 ^ size) s) same ∙ bit_at-pow_same size in
         absurd (omega (arith, none, set))
   ];
-  many = λ other low high. still_set (bit_at sizes other) (bit_at words other) (bit_at (bit_or sizes words) other) (bit_at_or sizes words other) (before.many other low high) (bit_at-lt words other);
+  many = λ other low high. still_set (bit_at sizes other) (bit_at words other) (bit_at (bit_or sizes words) other)
+      (bit_at_or sizes words other) (before.many other low high) (bit_at-lt words other);
 }
 
 -- and one that is not, since it has no marks
-pub sizes_unset : (marks : List ℕ) (plane sizes size words : ℕ) → words ≡ 2 ^ size → ((at : ℕ) → plane + words ≤ at → at < plane + 2 * words → is_marked marks at ≡ false) → AreSizes marks plane sizes size → AreSizes marks plane sizes (size + 1)
+pub sizes_unset : (marks : List ℕ) (plane sizes size words : ℕ)
+    → words ≡ 2 ^ size → ((at : ℕ) → plane + words ≤ at → at < plane + 2 * words → is_marked marks at ≡ false)
+    → AreSizes marks plane sizes size → AreSizes marks plane sizes (size + 1)
 sizes_unset marks plane sizes size words power none before = record {
   few = λ other less unset k small. elim (below_or other size less) [
     | inl low ↦ before.few other low unset k small
@@ -79,7 +88,8 @@ unset_by (suc (suc b)) words some none few = absurd (omega arith)
 
 -- there is none to add behind a first word
 pub none_behind :
-    (marks first old : List ℕ) (plane sizes size words : ℕ) (whole : Bool) → HasSizes marks plane sizes → bit_and sizes words ≡ 0 → words ≡ 2 ^ size → size ≤ 12
+    (marks first old : List ℕ) (plane sizes size words : ℕ) (whole : Bool)
+    → HasSizes marks plane sizes → bit_and sizes words ≡ 0 → words ≡ 2 ^ size → size ≤ 12
     → Gains old old (λ word mark. IsBehind marks plane first size words word × (mark ≡ whole))
 none_behind marks first old plane sizes size words whole has none power short = record {
   keys = λ word mark is. (
@@ -90,7 +100,8 @@ none_behind marks first old plane sizes size words whole has none power short = 
 }
   where
     unset : bit_at sizes size ≡ 0
-    unset = unset_by (bit_at sizes size) (2 ^ size) (pow_pos size) (sym (and_pow sizes size) ∙ ap (λ n. bit_and sizes n) (sym power) ∙ none) (bit_at-lt sizes size)
+    unset = unset_by (bit_at sizes size) (2 ^ size) (pow_pos size) (sym (and_pow sizes size)
+        ∙ ap (λ n. bit_and sizes n) (sym power) ∙ none) (bit_at-lt sizes size)
 
     no : {word : List ℕ} → ¬ IsBehind marks plane first size words word
     no b =

@@ -1,5 +1,7 @@
 -- The marks of the words that begin keys, from the longest words to the shortest.
-use Rattle.std.proofs.Common.{◌≡◌, ℕ, zero, suc, ◌+◌, ◌-◌, ◌*◌, ◌^◌, ◌<◌, ◌≤◌, Bool, true, false, ◌||◌, List, [], ◌∷◌, ◌++◌, length, IsTrue, refl, sym, ap, ◌∙◌, subst, arith, inl, inr, append_assoc, length-append}
+use Rattle.std.proofs.Common.{◌≡◌, ℕ, zero, suc, ◌+◌, ◌-◌, ◌*◌, ◌^◌, ◌<◌, ◌≤◌, Bool, true, false, ◌||◌, List, [], ◌∷◌}
+use Rattle.std.proofs.Common.{◌++◌, length, IsTrue, refl, sym, ap, ◌∙◌, subst, arith, inl, inr, append_assoc}
+use Rattle.std.proofs.Common.{length-append}
 use Rattle.std.proofs.Math.Nat.{pow-le-pow_right}
 use Rattle.std.proofs.lemmas.Bool.{cases_lt, or_cases, or_left, or_right}
 use Rattle.csn_bits.specs.Octets.{IsBits}
@@ -11,7 +13,8 @@ use Rattle.csn_look.proofs.Tables.KeyMarkFacts.{key_mark-low}
 
 -- ---- some words more
 
-begun_of : (new old : List ℕ) (p : ℕ) → is_marked new p ≡ is_marked old p → is_marked new (8192 + p) ≡ is_marked old (8192 + p) → is_marked new (16384 + p) ≡ is_marked old (16384 + p) → is_begun new p ≡ is_begun old p
+begun_of : (new old : List ℕ) (p : ℕ) → is_marked new p ≡ is_marked old p → is_marked new (8192 + p) ≡ is_marked old
+    (8192 + p) → is_marked new (16384 + p) ≡ is_marked old (16384 + p) → is_begun new p ≡ is_begun old p
 begun_of new old p a b c =
     ap (λ x. x || (is_marked new (8192 + p) || is_marked new (16384 + p))) a
     ∙ ap (λ x. is_marked old p || (x || is_marked new (16384 + p))) b
@@ -25,11 +28,13 @@ starts_none marks = record {
 }
 
 pub starts_more :
-    (first old new : List ℕ) (low high : ℕ) → low ≤ high → high ≤ 2 * low → high ≤ 4096 → MarksStarts high first old → MarksBetween low high old new → MarksStarts low first new
+    (first old new : List ℕ) (low high : ℕ) → low ≤ high → high ≤ 2 * low → high ≤ 4096 → MarksStarts high first old
+    → MarksBetween low high old new → MarksStarts low first new
 starts_more first old new low high order twice most m b = record {
   starts = λ place from below. elim (cases_lt place high) [
     | inl inside ↦
-        b.inside place from inside ∙ ap (λ x. x || (is_begun old (2 * place) || is_begun old (2 * place + 1))) (m.before (16384 + place) (omega arith)) ∙ same place from below
+        b.inside place from inside ∙ ap (λ x. x || (is_begun old (2 * place) || is_begun old (2 * place + 1)))
+        (m.before (16384 + place) (omega arith)) ∙ same place from below
     | inr past ↦ b.behind (16384 + place) (omega arith) ∙ m.starts place past below ∙ same place from below
   ];
   before = λ at under. b.before at under ∙ m.before at (omega arith);
@@ -105,7 +110,8 @@ module _ (old mid new : List ℕ) (P : List ℕ → Bool → Type 0) (g : Gains 
       let small : place_of f < 4096 = omega (arith, place_of-most f is.bits) in
       let zero_on = pushed f 0 is (omega arith) longer in
       let one_on = pushed f 1 is (omega arith) longer in
-      elim (or_cases (is_marked mid (16384 + place_of f)) (is_begun new (2 * place_of f) || is_begun new (2 * place_of f + 1)) (sym (s.starts (place_of f) (place_of-some f) small) ∙ h)) [
+      elim (or_cases (is_marked mid (16384 + place_of f)) (is_begun new (2 * place_of f) || is_begun new
+      (2 * place_of f + 1)) (sym (s.starts (place_of f) (place_of-some f) small) ∙ h)) [
         | inl e ↦ old_start t f is e
         | inr r ↦ elim (or_cases (is_begun new (2 * place_of f)) (is_begun new (2 * place_of f + 1)) r) [
           | inl e ↦ by_bit f 0 (2 * place_of f) zero_on (omega arith) e (starts_to t n (f ++ 0 ∷ []) zero_on (omega (arith, length-append f (0 ∷ []))))
@@ -144,7 +150,8 @@ module _ (old mid new : List ℕ) (P : List ℕ → Bool → Type 0) (g : Gains 
       or_right (is_marked new (place_of w)) (is_marked new (8192 + place_of w) || is_marked new (16384 + place_of w))
       (or_right (is_marked new (8192 + place_of w)) (is_marked new (16384 + place_of w)) h)
 
-  starts_from : (f : List ℕ) (x : ℕ) (back : List ℕ) (mark : Bool) → IsWord (f ++ x ∷ back) → IsTrue (has_key new (f ++ x ∷ back) mark) → is_marked new (16384 + place_of f) ≡ true
+  starts_from : (f : List ℕ) (x : ℕ) (back : List ℕ) (mark : Bool) → IsWord (f ++ x ∷ back)
+      → IsTrue (has_key new (f ++ x ∷ back) mark) → is_marked new (16384 + place_of f) ≡ true
   starts_from f x [] mark is h =
       let short = is.short in
       up f x (word_front f (x ∷ []) is) (omega (arith, length-append f (x ∷ []))) (last_small f x [] is.bits) (key_begun (f ++ x ∷ []) mark h)

@@ -10,13 +10,16 @@ use Rattle.csn_look.proofs.Tables.KeyMarkFacts.{key_added, tables_joined, adds_j
 use Rattle.csn_look.proofs.Handing.ReachedParts.{written_back}
 
 -- laying the marks out leaves a table
-pub still_table : (index blocks own : List ℕ) → IsKeyTable own → marks_of index blocks ≡ own → AreWithin index blocks → IsKeyTable (marks_of index blocks) × AreWithin index blocks
+pub still_table : (index blocks own : List ℕ) → IsKeyTable own → marks_of index blocks ≡ own → AreWithin index blocks
+    → IsKeyTable (marks_of index blocks) × AreWithin index blocks
 still_table index blocks own table same within =
     let P : List ℕ → Type 0 = IsKeyTable in
     (subst P (sym same) table, within)
 
 -- marks that extend those that were laid out, and are written back over them
-module _ {P : List ℕ → Bool → Type 0} (index items seen own new : List ℕ) (n : ℕ) (none : index ≡ []) (same : marks_of index items ≡ own) (all : n ≡ length items) (is : seen ≡ items) (size : length new ≡ length seen) (more : Extends seen new P) where
+module _ {P : List ℕ → Bool → Type 0} (index items seen own new : List ℕ) (n : ℕ) (none : index ≡ [])
+    (same : marks_of index items ≡ own) (all : n ≡ length items) (is : seen ≡ items) (size : length new ≡ length seen)
+    (more : Extends seen new P) where
   extended : Extends own new P
   extended = let Q : List ℕ → Type 0 = λ old. Extends old new P in subst Q (is ∙ unpacked index items own none same) more
 
@@ -24,7 +27,8 @@ module _ {P : List ℕ → Bool → Type 0} (index items seen own new : List ℕ
   back = sym (no_index index (take n (new ++ drop (length new) items)) none ∙ written_back new items n (size ∙ ap length is) all)
 
   -- they are a table where they are marks of one
-  pub table_written : IsKeyTable own → IsKeyTable (marks_of index (take n (new ++ drop (length new) items))) × AreWithin index (take n (new ++ drop (length new) items))
+  pub table_written : IsKeyTable own → IsKeyTable (marks_of index (take n (new ++ drop (length new) items)))
+      × AreWithin index (take n (new ++ drop (length new) items))
   table_written table =
       let Q : List ℕ → Type 0 = IsKeyTable in
       (subst Q back (extended.table table), none_within index (take n (new ++ drop (length new) items)) none)
@@ -36,14 +40,17 @@ module _ {P : List ℕ → Bool → Type 0} (index items seen own new : List ℕ
 -- ---- what extends them
 
 -- one key more
-pub key_extends : (old new word : List ℕ) (whole : Bool) → IsWord word → length new ≡ length old → AddsKey old new word whole → Extends old new (λ key mark. (key ≡ word) × (mark ≡ whole))
+pub key_extends : (old new word : List ℕ) (whole : Bool) → IsWord word → length new ≡ length old
+    → AddsKey old new word whole → Extends old new (λ key mark. (key ≡ word) × (mark ≡ whole))
 key_extends old new word whole is size adds = record {
   keys = adds.keys;
   table = λ table. key_added old new word whole is size table adds;
 }
 
 -- the marks of another table
-pub marks_extend : (old other new : List ℕ) → IsKeyTable other → length new ≡ length old → ((at : ℕ) → is_marked new at ≡ (is_marked old at || is_marked other at)) → Extends old new (λ key mark. IsTrue (has_key other key mark))
+pub marks_extend : (old other new : List ℕ) → IsKeyTable other → length new ≡ length old
+    → ((at : ℕ) → is_marked new at ≡ (is_marked old at || is_marked other at))
+    → Extends old new (λ key mark. IsTrue (has_key other key mark))
 marks_extend old other new more size marks = record {
   keys = adds_joined old other new marks;
   table = λ table. tables_joined old other new size table more marks;

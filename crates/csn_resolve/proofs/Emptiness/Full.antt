@@ -7,7 +7,11 @@ use Rattle.csn_grammar.specs.RulesV.{RulesV}
 use Rattle.csn_grammar.specs.Void.{Void, SomeVoid, void_group, void_labelled, void_seq, void_choice, void_here, void_later}
 use Rattle.csn_grammar.proofs.VoidFacts.{none_kept, tail_void, spare_bit_full, spare_low_full, padding_full, part_void, body_void, left_void, right_void}
 use Rattle.csn_resolve.specs.Seen.{Frame, Seen}
-use Rattle.csn_resolve.specs.Gives.{Placed, Gives, ItemsGive, RuleGives, gives_lits, gives_null, gives_bit, gives_octet, gives_field, gives_rest, gives_spare_bit, gives_spare_low, gives_padding, gives_seq, gives_choice, gives_only, gives_times, gives_many, gives_cut, gives_window, gives_labelled, gives_name, gives_group, gives_received, gives_sent, items_end, items_next, rule_plain, rule_tail}
+use Rattle.csn_resolve.specs.Gives.{Placed, Gives, ItemsGive, RuleGives, gives_lits, gives_null, gives_bit}
+use Rattle.csn_resolve.specs.Gives.{gives_octet, gives_field, gives_rest, gives_spare_bit, gives_spare_low}
+use Rattle.csn_resolve.specs.Gives.{gives_padding, gives_seq, gives_choice, gives_only, gives_times, gives_many}
+use Rattle.csn_resolve.specs.Gives.{gives_cut, gives_window, gives_labelled, gives_name, gives_group, gives_received}
+use Rattle.csn_resolve.specs.Gives.{gives_sent, items_end, items_next, rule_plain, rule_tail}
 
 module _ (rules : RulesV) (r : Reading) where
   mutual

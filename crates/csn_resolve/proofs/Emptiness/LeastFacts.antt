@@ -1,5 +1,6 @@
 -- The marked rules are those that pass: what is found with them passes, and what passes is found with them.
-use Rattle.std.proofs.Common.{◌≡◌, ℕ, zero, suc, ◌<◌, Bool, true, false, List, [], ◌∷◌, ◌++◌, length, set, slice_get, Some, None, Option, refl, ◌∙◌, ap, subst, arith, codes, ◌⊎◌, inl, inr}
+use Rattle.std.proofs.Common.{◌≡◌, ℕ, zero, suc, ◌<◌, Bool, true, false, List, [], ◌∷◌, ◌++◌, length, set, slice_get}
+use Rattle.std.proofs.Common.{Some, None, Option, refl, ◌∙◌, ap, subst, arith, codes, ◌⊎◌, inl, inr}
 use Rattle.std.proofs.lemmas.Bool.{or_left, or_right, and_from}
 use Rattle.csn_desc.specs.declared.reading.Reading.{Reading}
 use Rattle.csn_grammar.specs.declared.rules.Rule.{Rule}
@@ -7,7 +8,9 @@ use Rattle.csn_grammar.specs.ExprV.{ExprV, expr, ExprsV, BranchesV, sends}
 use Rattle.csn_grammar.specs.RulesV.{RulesV}
 use Rattle.csn_grammar.specs.Names.{same_name, rule_of}
 use Rattle.csn_grammar.specs.Void as grammar
-use Rattle.csn_grammar.specs.Void.{SomeVoid, AllVoid, void_none, void_name, void_group, void_labelled, void_window, void_seq, void_choice, void_received, void_sent, void_here, void_later, all_end, all_next, all_error}
+use Rattle.csn_grammar.specs.Void.{SomeVoid, AllVoid, void_none, void_name, void_group, void_labelled, void_window}
+use Rattle.csn_grammar.specs.Void.{void_seq, void_choice, void_received, void_sent, void_here, void_later, all_end}
+use Rattle.csn_grammar.specs.Void.{all_next, all_error}
 use Rattle.csn_resolve.specs.Counts as counts
 use Rattle.csn_resolve.specs.Counts.{narrow_field, narrow_name, narrow_group, narrow_received, narrow_sent}
 use Rattle.csn_resolve.specs.Tests.{is_void, some_void, all_void, is_narrow, form_narrow, narrow_width, form_void}
@@ -78,8 +81,11 @@ module _ (rules : RulesV) (marks : List Bool) where
       void_closed (void_window {x = x} {y = y} win is h) = v.found_window rules r (marked rules marks) x y win is (void_closed h)
       void_closed (void_seq h) = some_closed h
       void_closed (void_choice h) = all_closed h
-      void_closed (void_received {x = x} {y = y} is h) = side_taken (λ z. form_void z (marked rules marks) (sends x y)) (λ z. is_void z (marked rules marks) x) is refl (void_closed h)
-      void_closed (void_sent {x = x} {y = y} is h) = side_taken (λ z. form_void z (marked rules marks) (sends x y)) (λ z. is_void z (marked rules marks) y) is refl (void_closed h)
+      void_closed (void_received {x = x} {y = y} is h) =
+          side_taken (λ z. form_void z (marked rules marks) (sends x y)) (λ z. is_void z (marked rules marks) x)
+          is refl (void_closed h)
+      void_closed (void_sent {x = x} {y = y} is h) = side_taken (λ z. form_void z (marked rules marks) (sends x y))
+          (λ z. is_void z (marked rules marks) y) is refl (void_closed h)
 
       some_closed : {xs : ExprsV} → SomeVoid rules r xs → some_void r (marked rules marks) xs ≡ true
       some_closed (void_here {x = x} {xs = xs} h) = or_left (is_void r (marked rules marks) x) (some_void r (marked rules marks) xs) (void_closed h)
@@ -97,8 +103,12 @@ module _ (rules : RulesV) (marks : List Bool) where
   narrow_closed r closed (narrow_name {n = n} rule is h) =
       let body = narrow_closed r closed h in name_marked n rule is (λ k at. closed k rule at body)
   narrow_closed r closed (narrow_group h) = narrow_closed r closed h
-  narrow_closed r closed (narrow_received {x = x} {y = y} is h) = side_taken (λ z. form_narrow z (marked rules marks) (sends x y)) (λ z. is_narrow z (marked rules marks) x) is refl (narrow_closed r closed h)
-  narrow_closed r closed (narrow_sent {x = x} {y = y} is h) = side_taken (λ z. form_narrow z (marked rules marks) (sends x y)) (λ z. is_narrow z (marked rules marks) y) is refl (narrow_closed r closed h)
+  narrow_closed r closed (narrow_received {x = x} {y = y} is h) =
+      side_taken (λ z. form_narrow z (marked rules marks) (sends x y)) (λ z. is_narrow z (marked rules marks) x)
+      is refl (narrow_closed r closed h)
+  narrow_closed r closed (narrow_sent {x = x} {y = y} is h) =
+      side_taken (λ z. form_narrow z (marked rules marks) (sends x y)) (λ z. is_narrow z (marked rules marks) y)
+      is refl (narrow_closed r closed h)
 
   pub passes_found :
       (test : Test) (x : ExprV) → AreClosed rules test marks → Passes rules test x → passes test (marked rules marks) x ≡ true

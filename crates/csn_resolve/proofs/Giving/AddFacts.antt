@@ -1,5 +1,6 @@
 -- Nodes that are added one after another are those that an expression gives, form by form.
-use Rattle.std.proofs.Common.{◌≡◌, ℕ, suc, ◌+◌, ◌≤◌, ◌<◌, true, false, List, [], ◌∷◌, ◌++◌, length, codes, refl, sym, ◌∙◌, ap, subst, arith, append_assoc, length-append, Option, Some, None, Result, Ok, Err}
+use Rattle.std.proofs.Common.{◌≡◌, ℕ, suc, ◌+◌, ◌≤◌, ◌<◌, true, false, List, [], ◌∷◌, ◌++◌, length, codes, refl, sym}
+use Rattle.std.proofs.Common.{◌∙◌, ap, subst, arith, append_assoc, length-append, Option, Some, None, Result, Ok, Err}
 use Rattle.std.specs.Prelude.{OnOk}
 use Rattle.csn_desc.specs.declared.reading.Reading.{Reading}
 use Rattle.csn_desc.specs.declared.reading.Reading.TheVariants.{Received, Sent}
@@ -12,7 +13,8 @@ use Rattle.csn_desc.specs.declared.node.Node.TheVariants.{Lits, Spare, Pad, Null
 use Rattle.csn_grammar.specs.declared.exponent.Exponent.{Exponent}
 use Rattle.csn_grammar.specs.declared.exponent.Exponent.TheVariants.{Any}
 use Rattle.csn_grammar.specs.declared.rules.Rule.{Rule}
-use Rattle.csn_grammar.specs.ExprV.{ExprV, expr, FormV, lits, null, bit, octet, name, labelled, group, seq, choice, power, cut, both, sends, ExprsV, BranchV, exprs_of, branches_of}
+use Rattle.csn_grammar.specs.ExprV.{ExprV, expr, FormV, lits, null, bit, octet, name, labelled, group, seq, choice}
+use Rattle.csn_grammar.specs.ExprV.{power, cut, both, sends, ExprsV, BranchV, exprs_of, branches_of}
 use Rattle.csn_grammar.specs.RulesV.{RulesV}
 use Rattle.csn_grammar.specs.Names.{is_built_in, rule_of, name_of}
 use Rattle.csn_grammar.specs.Forms.{unit_of, is_bit, WindowV, window_of}
@@ -21,7 +23,11 @@ use Rattle.csn_grammar.specs.Void.{Kept}
 use Rattle.csn_grammar.proofs.VoidFacts.{no_rule, same_rule, same_window}
 use Rattle.csn_grammar.specs.declared.built_in.BuiltIn.TheVariants.{NoString}
 use Rattle.csn_resolve.specs.Seen.{Frame, Seen}
-use Rattle.csn_resolve.specs.Gives.{Placed, placed, count_at, Gives, ItemsGive, EachGives, RuleGives, gives_lits, gives_null, gives_bit, gives_octet, gives_field, gives_rest, gives_spare_bit, gives_spare_low, gives_padding, gives_seq, gives_choice, gives_only, gives_times, gives_many, gives_cut, gives_window, gives_labelled, gives_name, gives_group, gives_received, gives_sent, rule_plain, rule_tail}
+use Rattle.csn_resolve.specs.Gives.{Placed, placed, count_at, Gives, ItemsGive, EachGives, RuleGives, gives_lits}
+use Rattle.csn_resolve.specs.Gives.{gives_null, gives_bit, gives_octet, gives_field, gives_rest, gives_spare_bit}
+use Rattle.csn_resolve.specs.Gives.{gives_spare_low, gives_padding, gives_seq, gives_choice, gives_only, gives_times}
+use Rattle.csn_resolve.specs.Gives.{gives_many, gives_cut, gives_window, gives_labelled, gives_name, gives_group}
+use Rattle.csn_resolve.specs.Gives.{gives_received, gives_sent, rule_plain, rule_tail}
 use Rattle.csn_resolve.specs.Made.{only, GivesFew, ItemsGiveFew, KeptGiveFew, RuleGivesFew, Adds, AddsItems, AddsKept, AddsRule}
 use Rattle.csn_resolve.proofs.Basics.Bools.{no_both}
 use Rattle.csn_resolve.proofs.Basics.Options.{no_none, same_some}
@@ -141,7 +147,8 @@ module _ (rules : RulesV) (r : Reading) where
   pub few-group : {s e : ℕ} {x : ExprV} {at : ℕ} {seen : Seen ℕ} → GivesFew rules r (expr s e (group x)) at seen → GivesFew rules r x at seen
   few-group h = (h.0, inner h.1, h.2)
     where
-      inner : {s e : ℕ} {x : ExprV} {at : ℕ} {seen : Seen ℕ} {nodes : List Placed} → Gives rules r (expr s e (group x)) at seen nodes → Gives rules r x at seen nodes
+      inner : {s e : ℕ} {x : ExprV} {at : ℕ} {seen : Seen ℕ} {nodes : List Placed}
+          → Gives rules r (expr s e (group x)) at seen nodes → Gives rules r x at seen nodes
       inner (gives_group g) = g
 
   two-readings : {q : Reading} → q ≡ Received → q ≡ Sent → ⊥
@@ -344,7 +351,8 @@ module _ (rules : RulesV) (r : Reading) where
       → window_of x y ≡ Some w → count_at seen w.width.count ≡ Some count → inner ≡ length before + 1
       → middle ≡ before ++ placed (Window w.width.unit count inner) s ∷ []
       → Adds rules r w.part seen middle after → Adds rules r (expr s e (both x y)) seen before after
-  adds-window {s = s} {x = x} {y = y} {seen = seen} before middle after w number count is at here now h nodes (gives_window {inner = inner} v count' is' c g p) =
+  adds-window {s = s} {x = x} {y = y} {seen = seen} before middle after w number count is at here now h nodes
+      (gives_window {inner = inner} v count' is' c g p) =
       let same : v ≡ w = same_window x y is' is in
       let Part : WindowV → Type 0 = λ z. Gives rules r z.part (suc (length before)) seen inner in
       let part : Gives rules r w.part (suc (length before)) seen inner = subst Part same g in
@@ -408,7 +416,8 @@ module _ (rules : RulesV) (r : Reading) where
       {f : FormV} {s e : ℕ} (make : List ℕ → Node) (xs : List ExprV) → GivesItems make f s e (exprs_of xs)
       → {seen : Seen ℕ} (before middle inside after : List Placed) {parts : List ℕ} (head : Node) (number : ℕ)
       → middle ≡ before ++ placed head s ∷ [] → AddsItems rules r xs seen [] parts middle inside
-      → ((front back : List Placed) (other : Placed) → inside ≡ front ++ other ∷ back → number ≡ length front → after ≡ front ++ placed (make parts) other.place ∷ back)
+      → ((front back : List Placed) (other : Placed) → inside ≡ front ++ other ∷ back → number ≡ length front
+      → after ≡ front ++ placed (make parts) other.place ∷ back)
       → number ≡ length before → Adds rules r (expr s e f) seen before after
   adds-row {s = s} make xs gives {seen = seen} before middle inside after {parts = parts} head number is h put at nodes g =
       let there = gives (length before) seen nodes g in
@@ -463,9 +472,11 @@ module _ (rules : RulesV) (r : Reading) where
   pub adds-choice :
       {s e : ℕ} (bs : List BranchV) {seen : Seen ℕ} (before middle inside after : List Placed) {parts : List ℕ} (head : Node) (number : ℕ)
       → Only bs None → middle ≡ before ++ placed head s ∷ [] → AddsKept rules r bs seen [] parts middle inside
-      → ((front back : List Placed) (other : Placed) → inside ≡ front ++ other ∷ back → number ≡ length front → after ≡ front ++ placed (Choice parts) other.place ∷ back)
+      → ((front back : List Placed) (other : Placed) → inside ≡ front ++ other ∷ back → number ≡ length front
+      → after ≡ front ++ placed (Choice parts) other.place ∷ back)
       → number ≡ length before → Adds rules r (expr s e (choice (branches_of bs))) seen before after
-  adds-choice {s = s} bs {seen = seen} before middle inside after {parts = parts} head number the is h put at nodes (gives_choice {inner = inner} {parts = given} xs kept two g p) =
+  adds-choice {s = s} bs {seen = seen} before middle inside after {parts = parts} head number the is h put at nodes
+      (gives_choice {inner = inner} {parts = given} xs kept two g p) =
       let added = h xs kept given inner (each-at (part-at before middle _ is) g) in
       as-nodes before after nodes _ (filled before middle inside after inner (placed head s) number (Choice parts) is added.1 put at)
       (p ∙ ap (λ z. placed (Choice z) s ∷ inner) (sym added.0))

@@ -1,5 +1,6 @@
 -- Items and alternatives whose nodes are added one by one, and rules in tail form.
-use Rattle.std.proofs.Common.{◌≡◌, ℕ, suc, ◌+◌, ◌≤◌, ◌<◌, Bool, false, List, [], ◌∷◌, ◌++◌, length, refl, sym, ◌∙◌, ap, subst, arith, append_assoc, append-nil, length-append, Some}
+use Rattle.std.proofs.Common.{◌≡◌, ℕ, suc, ◌+◌, ◌≤◌, ◌<◌, Bool, false, List, [], ◌∷◌, ◌++◌, length, refl, sym, ◌∙◌}
+use Rattle.std.proofs.Common.{ap, subst, arith, append_assoc, append-nil, length-append, Some}
 use Rattle.csn_desc.specs.declared.reading.Reading.{Reading}
 use Rattle.csn_desc.specs.declared.node.Node.{Node}
 use Rattle.csn_desc.specs.declared.node.Node.TheVariants.{Lits, Seq, Many}
@@ -11,8 +12,10 @@ use Rattle.csn_grammar.specs.Environment.{label_of}
 use Rattle.csn_grammar.specs.TailForm.{TailV, tail_of}
 use Rattle.csn_grammar.specs.Void.{Void, Kept, kept_end, kept_next, kept_void, kept_error}
 use Rattle.csn_resolve.specs.Seen.{Frame, Seen, with_labelled}
-use Rattle.csn_resolve.specs.Gives.{Placed, placed, start_of, ItemsGive, EachGives, RuleGives, items_end, items_next, each_end, each_next, rule_plain, rule_tail}
-use Rattle.csn_resolve.specs.Made.{IsKept, QuietAt, BranchesQuiet, TurnGives, GivesFew, ItemsGiveFew, KeptGiveFew, TailGivesFew, TurnGivesFew, Adds, AddsItems, AddsKept, AddsTail, AddsTurn}
+use Rattle.csn_resolve.specs.Gives.{Placed, placed, start_of, ItemsGive, EachGives, RuleGives, items_end, items_next}
+use Rattle.csn_resolve.specs.Gives.{each_end, each_next, rule_plain, rule_tail}
+use Rattle.csn_resolve.specs.Made.{IsKept, QuietAt, BranchesQuiet, TurnGives, GivesFew, ItemsGiveFew, KeptGiveFew}
+use Rattle.csn_resolve.specs.Made.{TailGivesFew, TurnGivesFew, Adds, AddsItems, AddsKept, AddsTail, AddsTurn}
 use Rattle.csn_resolve.proofs.Giving.Once.{same_tail}
 use Rattle.csn_resolve.proofs.Giving.AddFacts.{some-given, one-more, items-at}
 use Rattle.csn_resolve.proofs.Basics.Bools.{no_both}
@@ -34,7 +37,8 @@ module _ (rules : RulesV) (r : Reading) where
   -- ---- items
 
   -- of these items these are left, behind a frame, where these parts and nodes were added
-  pub record ItemsLeft (xs : List ExprV) (seen : Seen ℕ) (parts_before : List ℕ) (before : List Placed) (rest : List ExprV) (frame : Frame ℕ) (parts_now : List ℕ) (now : List Placed) : Type 0 where
+  pub record ItemsLeft (xs : List ExprV) (seen : Seen ℕ) (parts_before : List ℕ) (before : List Placed)
+      (rest : List ExprV) (frame : Frame ℕ) (parts_now : List ℕ) (now : List Placed) : Type 0 where
     pub all : (parts : List ℕ) (nodes : List Placed) → ItemsGive rules r (exprs_of xs) (length before) [] seen parts nodes
         → (more : List ℕ) × (behind : List Placed) × ItemsGive rules r (exprs_of rest) (length now) frame seen more behind
         × (parts_before ++ parts ≡ parts_now ++ more) × (before ++ nodes ≡ now ++ behind)
@@ -125,7 +129,8 @@ module _ (rules : RulesV) (r : Reading) where
 
   -- ---- alternatives
 
-  pub record KeptLeft (bs : List BranchV) (seen : Seen ℕ) (parts_before : List ℕ) (before : List Placed) (rest : List BranchV) (parts_now : List ℕ) (now : List Placed) : Type 0 where
+  pub record KeptLeft (bs : List BranchV) (seen : Seen ℕ) (parts_before : List ℕ) (before : List Placed)
+      (rest : List BranchV) (parts_now : List ℕ) (now : List Placed) : Type 0 where
     pub all : (xs : List ExprV) (parts : List ℕ) (nodes : List Placed)
         → Kept rules r (branches_of bs) xs → EachGives rules r xs (length before) seen parts nodes
         → (ys : List ExprV) × (more : List ℕ) × (behind : List Placed)
@@ -135,7 +140,8 @@ module _ (rules : RulesV) (r : Reading) where
   pub kept-begin : (bs : List BranchV) {seen : Seen ℕ} {parts : List ℕ} {before : List Placed} → KeptLeft bs seen parts before bs parts before
   kept-begin bs = record { all = λ xs parts nodes kept g. (xs, parts, nodes, kept, g, refl, refl) }
 
-  pub kept-as : {bs rest : List BranchV} {b : BranchV} {xs : List ExprV} → bs ≡ b ∷ rest → Kept rules r (branches_of bs) xs → Kept rules r (branches_of (b ∷ rest)) xs
+  pub kept-as : {bs rest : List BranchV} {b : BranchV} {xs : List ExprV}
+      → bs ≡ b ∷ rest → Kept rules r (branches_of bs) xs → Kept rules r (branches_of (b ∷ rest)) xs
   kept-as {xs = xs} p h = let P : List BranchV → Type 0 = λ z. Kept rules r (branches_of z) xs in subst P p h
 
   pub kept-first :
@@ -181,12 +187,14 @@ module _ (rules : RulesV) (r : Reading) where
       {parts_old parts_now : List ℕ} {old now : List Placed} → left ≡ b ∷ rest → IsKept rules r b
       → KeptLeft bs seen parts_before before left parts_old old → Adds rules r b.body seen old now
       → parts_now ≡ parts_old ++ length old ∷ [] → KeptLeft bs seen parts_before before rest parts_now now
-  kept-more bs {parts_before = parts_before} {before = before} {rest = rest} {parts_old = parts_old} {parts_now = parts_now} {old = old} {now = now} are is h adds next =
+  kept-more bs {parts_before = parts_before} {before = before} {rest = rest} {parts_old = parts_old} {parts_now =
+      parts_now} {old = old} {now = now} are is h adds next =
       record {
         all = λ xs parts nodes kept g.
             let there = h.all xs parts nodes kept g in
             let first = kept-first rest is.plain is.full (kept-as are there.3) in
-            let step = one-kept old now (parts_before ++ parts) parts_old parts_now (before ++ nodes) adds next (each-as first.1 refl there.4) there.5 there.6 in
+            let step = one-kept old now (parts_before ++ parts) parts_old parts_now (before ++ nodes) adds next
+            (each-as first.1 refl there.4) there.5 there.6 in
             (first.0, step.0, step.1, first.2, step.2, step.3, step.4);
       }
 
@@ -290,13 +298,24 @@ module _ (rules : RulesV) (r : Reading) where
       record {
         parts = parts;
         items = items;
-        turn = placed (Many (many + 1)) tail.end.braces ∷ placed (Seq ((many + 2) ∷ turn_parts)) tail.end.again.at ∷ placed (Lits tail.end.again.run) tail.end.again.at ∷ turn;
+        turn = placed (Many (many + 1)) tail.end.braces ∷ placed (Seq ((many + 2) ∷ turn_parts))
+            tail.end.again.at ∷ placed (Lits tail.end.again.run) tail.end.again.at ∷ turn;
         items_given = subst Items same i;
         turn_given = turn-at m (record { parts = turn_parts; turn = turn; given = subst Turn same t; are = refl });
         are = subst Whole same p
-            ∙ (ap (λ z. placed (Seq (parts ++ z ∷ stop ∷ [])) (start_of rule.body) ∷ (items ++ (placed (Many (many + 1)) tail.end.braces ∷ placed (Seq ((many + 2) ∷ turn_parts)) tail.end.again.at ∷ placed (Lits tail.end.again.run) tail.end.again.at ∷ (turn ++ placed (Lits tail.end.stop.run) tail.end.stop.at ∷ [])))) m
-            ∙ (ap (λ z. placed (Seq (parts ++ (suc at + length items) ∷ z ∷ [])) (start_of rule.body) ∷ (items ++ (placed (Many (many + 1)) tail.end.braces ∷ placed (Seq ((many + 2) ∷ turn_parts)) tail.end.again.at ∷ placed (Lits tail.end.again.run) tail.end.again.at ∷ (turn ++ placed (Lits tail.end.stop.run) tail.end.stop.at ∷ [])))) more
-            ∙ ap (λ z. placed (Seq (parts ++ (suc at + length items) ∷ (suc at + length items + suc (suc (suc (length turn)))) ∷ [])) z ∷ (items ++ (placed (Many (many + 1)) tail.end.braces ∷ placed (Seq ((many + 2) ∷ turn_parts)) tail.end.again.at ∷ placed (Lits tail.end.again.run) tail.end.again.at ∷ (turn ++ placed (Lits tail.end.stop.run) tail.end.stop.at ∷ [])))) begins));
+            ∙ (ap (λ z. placed (Seq (parts ++ z ∷ stop ∷ [])) (start_of rule.body)
+            ∷ (items ++ (placed (Many (many + 1)) tail.end.braces ∷ placed (Seq ((many + 2) ∷ turn_parts))
+            tail.end.again.at ∷ placed (Lits tail.end.again.run)
+            tail.end.again.at ∷ (turn ++ placed (Lits tail.end.stop.run) tail.end.stop.at ∷ [])))) m
+            ∙ (ap (λ z. placed (Seq (parts ++ (suc at + length items) ∷ z ∷ [])) (start_of rule.body)
+            ∷ (items ++ (placed (Many (many + 1)) tail.end.braces ∷ placed (Seq ((many + 2) ∷ turn_parts))
+            tail.end.again.at ∷ placed (Lits tail.end.again.run)
+            tail.end.again.at ∷ (turn ++ placed (Lits tail.end.stop.run) tail.end.stop.at ∷ [])))) more
+            ∙ ap (λ z. placed
+            (Seq (parts ++ (suc at + length items) ∷ (suc at + length items + suc (suc (suc (length turn))))
+            ∷ [])) z ∷ (items ++ (placed (Many (many + 1)) tail.end.braces ∷ placed
+            (Seq ((many + 2) ∷ turn_parts)) tail.end.again.at ∷ placed (Lits tail.end.again.run)
+            tail.end.again.at ∷ (turn ++ placed (Lits tail.end.stop.run) tail.end.stop.at ∷ [])))) begins));
       }
 
   -- the few nodes, part by part
@@ -398,9 +417,11 @@ module _ (rules : RulesV) (r : Reading) where
       → tail.items ≡ exprs_of xs → middle ≡ before ++ placed head place ∷ [] → AddsItems rules r xs seen [] parts middle behind
       → AddsTurn rules r tail seen behind after → stopped ≡ after ++ placed (Lits tail.end.stop.run) tail.end.stop.at ∷ []
       → many ≡ length behind → stop ≡ length after → all_parts ≡ parts ++ many ∷ stop ∷ []
-      → ((front back : List Placed) (other : Placed) → stopped ≡ front ++ other ∷ back → number ≡ length front → whole ≡ front ++ placed (Seq all_parts) other.place ∷ back)
+      → ((front back : List Placed) (other : Placed) → stopped ≡ front ++ other ∷ back → number ≡ length front
+      → whole ≡ front ++ placed (Seq all_parts) other.place ∷ back)
       → number ≡ length before → AddsTail rules r place tail seen before whole
-  adds-tail {tail} {place} {seen} {middle} {behind} {after} {stopped} {whole} before {parts} {all_parts} xs head number many stop are is items turns last many_at stop_at all put at rule found begins nodes g =
+  adds-tail {tail} {place} {seen} {middle} {behind} {after} {stopped} {whole} before {parts} {all_parts}
+      xs head number many stop are is items turns last many_at stop_at all put at rule found begins nodes g =
       let t = tail-parts found begins g in
       let long = one-more before middle (placed head place) is in
       let P : ExprsV → Type 0 = λ z. ItemsGive rules r z (suc (length before)) [] seen t.parts t.items in
@@ -467,7 +488,8 @@ module _ (rules : RulesV) (r : Reading) where
       → tail.items ≡ exprs_of xs → one ≡ before ++ placed (Many sequence) tail.end.braces ∷ []
       → two ≡ one ++ placed head tail.end.again.at ∷ [] → three ≡ two ++ placed (Lits tail.end.again.run) tail.end.again.at ∷ []
       → AddsItems rules r xs seen (word ∷ []) parts three inside → sequence ≡ length before + 1 → word ≡ sequence + 1
-      → ((front back : List Placed) (other : Placed) → inside ≡ front ++ other ∷ back → sequence ≡ length front → whole ≡ front ++ placed (Seq parts) other.place ∷ back)
+      → ((front back : List Placed) (other : Placed) → inside ≡ front ++ other ∷ back → sequence ≡ length front
+      → whole ≡ front ++ placed (Seq parts) other.place ∷ back)
       → AddsTurn rules r tail seen before whole
   adds-turn {tail} {seen} {one} {two} {three} {inside} {whole} before {parts} xs head sequence word are a b c items first second put nodes t =
       let p : Placed = placed (Many sequence) tail.end.braces in
@@ -481,7 +503,9 @@ module _ (rules : RulesV) (r : Reading) where
       let at : sequence ≡ length one = omega (arith, one_long, first) in
       let word_is : length before + 2 ≡ word = omega (arith, first, second) in
       let now : whole ≡ before ++ p ∷ placed (Seq parts) tail.end.again.at ∷ s ∷ t.turn =
-      put one (s ∷ t.turn) q so_far at ∙ (ap (λ l. l ++ placed (Seq parts) tail.end.again.at ∷ s ∷ t.turn) a ∙ append_assoc before (p ∷ []) (placed (Seq parts) tail.end.again.at ∷ s ∷ t.turn)) in
+      put one (s ∷ t.turn) q so_far at
+      ∙ (ap (λ l. l ++ placed (Seq parts) tail.end.again.at ∷ s ∷ t.turn) a ∙ append_assoc before (p ∷ [])
+      (placed (Seq parts) tail.end.again.at ∷ s ∷ t.turn)) in
       let numbers : (length before + 2) ∷ t.parts ≡ parts = ap (λ z. z ∷ t.parts) word_is ∙ sym added.0 in
       let many_is : length before + 1 ≡ sequence = sym first in
       now ∙ ap (λ l. before ++ l) (sym (t.are

@@ -15,9 +15,17 @@ use Rattle.csn_resolve.specs.declared.why.Why.TheVariants.{Undefined, Recursive,
 use Rattle.csn_resolve.specs.Why.{Refusal}
 use Rattle.csn_resolve.specs.Seen.{Frame, Seen}
 use Rattle.csn_resolve.specs.Steps.{Step, begins, refused, refusals_after}
-use Rattle.csn_resolve.specs.Walk.{Around, inside, in_turn, turn_begun, entering, node_at, Walk, ItemsWalk, BranchesWalk, RuleWalk, walk_lits, walk_null, walk_bit, walk_octet, walk_field, walk_rest, walk_built_in, walk_undefined, walk_recursive, walk_name, walk_group, walk_labelled, walk_seq, walk_choice, walk_times, walk_many, walk_cut, walk_window, walk_window_behind, walk_no_window, walk_sends}
+use Rattle.csn_resolve.specs.Walk.{Around, inside, in_turn, turn_begun, entering, node_at, Walk, ItemsWalk}
+use Rattle.csn_resolve.specs.Walk.{BranchesWalk, RuleWalk, walk_lits, walk_null, walk_bit, walk_octet, walk_field}
+use Rattle.csn_resolve.specs.Walk.{walk_rest, walk_built_in, walk_undefined, walk_recursive, walk_name, walk_group}
+use Rattle.csn_resolve.specs.Walk.{walk_labelled, walk_seq, walk_choice, walk_times, walk_many, walk_cut, walk_window}
+use Rattle.csn_resolve.specs.Walk.{walk_window_behind, walk_no_window, walk_sends}
 use Rattle.csn_resolve.specs.Walk as walk
-use Rattle.csn_resolve.specs.Gives.{Placed, start_of, Gives, ItemsGive, EachGives, RuleGives, gives_lits, gives_null, gives_bit, gives_octet, gives_field, gives_rest, gives_spare_bit, gives_spare_low, gives_padding, gives_seq, gives_choice, gives_only, gives_times, gives_many, gives_cut, gives_window, gives_labelled, gives_name, gives_group, gives_received, gives_sent, items_end, items_next, each_end, each_next, rule_plain, rule_tail}
+use Rattle.csn_resolve.specs.Gives.{Placed, start_of, Gives, ItemsGive, EachGives, RuleGives, gives_lits, gives_null}
+use Rattle.csn_resolve.specs.Gives.{gives_bit, gives_octet, gives_field, gives_rest, gives_spare_bit, gives_spare_low}
+use Rattle.csn_resolve.specs.Gives.{gives_padding, gives_seq, gives_choice, gives_only, gives_times, gives_many}
+use Rattle.csn_resolve.specs.Gives.{gives_cut, gives_window, gives_labelled, gives_name, gives_group, gives_received}
+use Rattle.csn_resolve.specs.Gives.{gives_sent, items_end, items_next, each_end, each_next, rule_plain, rule_tail}
 use Rattle.csn_resolve.specs.Resolved.{ResolveSteps, asked_unknown, asked_rule, NameGives, AreRefusals, twice_steps}
 use Rattle.csn_resolve.proofs.Giving.Once.{same_tail}
 use Rattle.csn_resolve.proofs.Basics.Windows.{only_is, left_window, right_window}
@@ -52,7 +60,16 @@ turn_begins a end =
     let braces = entering (inside a) end.braces in
     let again = node_at (inside (inside a)) end.again.at in
     let word = node_at (in_turn a) end.again.at in
-    omega (arith, node_begun a end.braces, node_begun (inside (inside a)) end.again.at, node_begun (in_turn a) end.again.at, begun_both first (braces ++ (again ++ word)), begun_both braces (again ++ word), begun_both again word)
+    omega (
+      arith,
+      node_begun a end.braces,
+      node_begun (inside (inside a)) end.again.at,
+      node_begun (in_turn a)
+          end.again.at,
+      begun_both first (braces ++ (again ++ word)),
+      begun_both braces (again ++ word),
+      begun_both again word,
+    )
 
 -- ---- that many are not refused
 
@@ -109,7 +126,16 @@ tail_begun :
     {steps : List Step} (node items turns turn left ends : List Step) → steps ≡ node ++ (items ++ (turns ++ (turn ++ (left ++ ends))))
     → begun steps ≡ begun node + (begun items + (begun turns + (begun turn + (begun left + begun ends))))
 tail_begun node items turns turn left ends p =
-    omega (arith, begun_in node (items ++ (turns ++ (turn ++ (left ++ ends)))) p, begun_both items (turns ++ (turn ++ (left ++ ends))), begun_both turns (turn ++ (left ++ ends)), begun_both turn (left ++ ends), begun_both left ends)
+    omega (
+      arith,
+      begun_in node (items ++ (turns ++ (turn ++ (left ++ ends)))) p,
+      begun_both items
+          (turns ++ (turn ++ (left ++ ends))),
+      begun_both turns (turn ++ (left ++ ends)),
+      begun_both turn
+          (left ++ ends),
+      begun_both left ends,
+    )
 
 -- the nodes of one
 tail_count :
@@ -140,7 +166,8 @@ module _ (rules : RulesV) (r : Reading) where
     gives_few {a} (walk_rest {s = s} is p) q (gives_many other g given) = absurd (no_both is other)
     gives_few (walk_times none c w l p) q (gives_field unit count at_unit at_count g) = absurd (cc)
     gives_few (walk_times none c w l p) q (gives_rest one g) = elim c [ ]
-    gives_few {a} (walk_times {s = s} {counts = counts} {inner = inner} {left = left} none c w l p) q (gives_times {inner = part} count none' at_count g given) =
+    gives_few {a} (walk_times {s = s} {counts = counts} {inner = inner} {left = left} none c w l p) q
+        (gives_times {inner = part} count none' at_count g given) =
         let after = rest_of counts (inner ++ left) refl (rest_of (node_at a s) (counts ++ (inner ++ left)) p q) in
         node_few a s (counts ++ (inner ++ left)) p given
         (rest_few part counts (inner ++ left) (first_few part inner left (gives_few w (first_of inner left refl after) g)))
@@ -169,12 +196,14 @@ module _ (rules : RulesV) (r : Reading) where
         entered_few nodes a s inner p (gives_few w (rest_of (entering a s) inner p q) g)
     gives_few {a} (walk_labelled {s = s} {inner = inner} w p) q (gives_labelled g given) =
         node_few a s inner p given (gives_few w (rest_of (node_at a s) inner p q) g)
-    gives_few {a} {at = at} {seen = seen} (walk_window {s = s} {x = x} {y = y} {counts = counts} {inner = steps} w is c k p) q (gives_window {inner = inner} v count window at_count g given) =
+    gives_few {a} {at = at} {seen = seen} (walk_window {s = s} {x = x} {y = y} {counts = counts} {inner = steps}
+        w is c k p) q (gives_window {inner = inner} v count window at_count g given) =
         let same : v ≡ record { width = w; part = y } = same_window x y window (left_window x y w is) in
         let P : WindowV → Type 0 = λ z. Gives rules r z.part (suc at) seen inner in
         let after = rest_of (node_at a s) (counts ++ steps) p q in
         node_few a s (counts ++ steps) p given (rest_few inner counts steps (gives_few k (rest_of counts steps refl after) (subst P same g)))
-    gives_few {a} {at = at} {seen = seen} (walk_window_behind {s = s} {x = x} {y = y} {counts = counts} {inner = steps} w none is k c p) q (gives_window {inner = inner} v count window at_count g given) =
+    gives_few {a} {at = at} {seen = seen} (walk_window_behind {s = s} {x = x} {y = y} {counts = counts}
+        {inner = steps} w none is k c p) q (gives_window {inner = inner} v count window at_count g given) =
         let same : v ≡ record { width = w; part = x } = same_window x y window (right_window x y w none is) in
         let P : WindowV → Type 0 = λ z. Gives rules r z.part (suc at) seen inner in
         let after = rest_of (node_at a s) (steps ++ counts) p q in
@@ -228,7 +257,8 @@ module _ (rules : RulesV) (r : Reading) where
         → BranchesWalk rules r a bs steps → Quiet steps → Kept rules r bs xs → xs ≡ x ∷ []
         → Gives rules r x at seen nodes → length nodes ≤ begun steps
     only_few (walk.branches_end p) q kept_end one g = absurd (cc)
-    only_few {at = at} {seen = seen} {nodes = nodes} (walk.branches_next {first = steps} {left = left} {rest = more} w l others p) q (kept_next full kept) one g =
+    only_few {at = at} {seen = seen} {nodes = nodes} (walk.branches_next {first = steps} {left = left} {rest = more}
+        w l others p) q (kept_next full kept) one g =
         let P : ExprV → Type 0 = λ z. Gives rules r z at seen nodes in
         let here = gives_few w (first_of steps (left ++ more) p q) (subst P (sym (only_is one)) g) in
         omega (arith, begun_in steps (left ++ more) p, here)
@@ -245,7 +275,8 @@ module _ (rules : RulesV) (r : Reading) where
     rule_few (walk.rule_plain is w) q (rule_plain is' g) = gives_few w q g
     rule_few (walk.rule_plain is w) q (rule_tail tail many stop parts turn_parts items turn is' i many_is t stop_is p) = absurd (cc)
     rule_few (walk.rule_tail tail is i t l p) q (rule_plain is' g) = absurd (cc)
-    rule_few {a} {rule} {at = at} {seen = seen} (walk.rule_tail {items = steps} {turn = turns} {left = left} tail is i t l p) q (rule_tail tail' many stop parts turn_parts items turn is' i' many_is t' stop_is p') =
+    rule_few {a} {rule} {at = at} {seen = seen} (walk.rule_tail {items = steps} {turn = turns} {left = left}
+        tail is i t l p) q (rule_tail tail' many stop parts turn_parts items turn is' i' many_is t' stop_is p') =
         let same : tail' ≡ tail = same_tail rule is' is in
         let P : TailV → Type 0 = λ z. ItemsGive rules r z.items (suc at) [] seen parts items in
         let Q : TailV → Type 0 = λ z. ItemsGive rules r z.items (many + 3) [] seen turn_parts turn in

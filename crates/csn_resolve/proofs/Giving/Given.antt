@@ -12,12 +12,24 @@ use Rattle.csn_grammar.specs.Names.{same_name, is_built_in, built_in_names}
 use Rattle.csn_grammar.specs.Forms.{window_of}
 use Rattle.csn_grammar.specs.Environment.{label_of}
 use Rattle.csn_grammar.specs.TailForm.{TailV, tail_of}
-use Rattle.csn_grammar.specs.Void.{Void, SomeVoid, AllVoid, Kept, void_none, void_name, void_group, void_labelled, void_window, void_seq, void_choice, void_received, void_sent, void_here, void_later, all_end, all_next, all_error, kept_end, kept_next, kept_void, kept_error}
+use Rattle.csn_grammar.specs.Void.{Void, SomeVoid, AllVoid, Kept, void_none, void_name, void_group, void_labelled}
+use Rattle.csn_grammar.specs.Void.{void_window, void_seq, void_choice, void_received, void_sent, void_here}
+use Rattle.csn_grammar.specs.Void.{void_later, all_end, all_next, all_error, kept_end, kept_next, kept_void}
+use Rattle.csn_grammar.specs.Void.{kept_error}
 use Rattle.csn_resolve.specs.Seen.{Frame, Seen, with_labelled, inner_of}
-use Rattle.csn_resolve.specs.Gives.{Placed, placed, Gives, ItemsGive, EachGives, RuleGives, start_of, gives_lits, gives_null, gives_bit, gives_octet, gives_field, gives_rest, gives_spare_bit, gives_spare_low, gives_padding, gives_seq, gives_choice, gives_only, gives_times, gives_many, gives_cut, gives_window, gives_labelled, gives_name, gives_group, gives_received, gives_sent, items_end, items_next, each_end, each_next, rule_plain, rule_tail}
+use Rattle.csn_resolve.specs.Gives.{Placed, placed, Gives, ItemsGive, EachGives, RuleGives, start_of, gives_lits}
+use Rattle.csn_resolve.specs.Gives.{gives_null, gives_bit, gives_octet, gives_field, gives_rest, gives_spare_bit}
+use Rattle.csn_resolve.specs.Gives.{gives_spare_low, gives_padding, gives_seq, gives_choice, gives_only, gives_times}
+use Rattle.csn_resolve.specs.Gives.{gives_many, gives_cut, gives_window, gives_labelled, gives_name, gives_group}
+use Rattle.csn_resolve.specs.Gives.{gives_received, gives_sent, items_end, items_next, each_end, each_next}
+use Rattle.csn_resolve.specs.Gives.{rule_plain, rule_tail}
 use Rattle.csn_resolve.specs.declared.why.Why.TheVariants.{Undefined, Recursive, IntersectionForm}
 use Rattle.csn_resolve.specs.Steps.{Step, refused}
-use Rattle.csn_resolve.specs.Walk.{Around, is_among, inside, in_turn, turn_begun, behind, node_at, entering, ItemLeft, Walk, ItemsWalk, BranchesWalk, RuleWalk, walk_lits, walk_null, walk_bit, walk_octet, walk_field, walk_rest, walk_built_in, walk_undefined, walk_recursive, walk_name, walk_group, walk_labelled, walk_seq, walk_choice, walk_times, walk_many, walk_cut, walk_window, walk_window_behind, walk_no_window, walk_sends}
+use Rattle.csn_resolve.specs.Walk.{Around, is_among, inside, in_turn, turn_begun, behind, node_at, entering, ItemLeft}
+use Rattle.csn_resolve.specs.Walk.{Walk, ItemsWalk, BranchesWalk, RuleWalk, walk_lits, walk_null, walk_bit}
+use Rattle.csn_resolve.specs.Walk.{walk_octet, walk_field, walk_rest, walk_built_in, walk_undefined, walk_recursive}
+use Rattle.csn_resolve.specs.Walk.{walk_name, walk_group, walk_labelled, walk_seq, walk_choice, walk_times, walk_many}
+use Rattle.csn_resolve.specs.Walk.{walk_cut, walk_window, walk_window_behind, walk_no_window, walk_sends}
 use Rattle.csn_resolve.specs.Walk as walk
 use Rattle.csn_resolve.specs.Resolved.{ResolveSteps, asked_unknown, asked_rule, NameGives, AreRefusals, twice_steps}
 use Rattle.csn_resolve.proofs.Walking.Quiet.{Quiet, first_of, rest_of, quiet_from, SameFrame, SameSeen, same_with, count_given, not_refused}
@@ -208,7 +220,8 @@ module _ (rules : RulesV) (r : Reading) where
     items_given (walk.items_end p) q none at other seen alike same = (_, _, items_end refl refl)
     items_given {full} {frame = frame} (walk.items_next {x = x} {xs = xs} {first = first} {rest = rest} left h l more p) q none at other seen alike same =
         let after = rest_of first (left ++ rest) p q in
-        let nodes = given h (first_of first (left ++ rest) p q) (item_full full x xs left l (first_of left rest refl after) none) at (other ∷ seen) (alike, same) in
+        let nodes = given h (first_of first (left ++ rest) p q)
+        (item_full full x xs left l (first_of left rest refl after) none) at (other ∷ seen) (alike, same) in
         let later =
         items_given more (rest_of left rest refl after) (λ is v. none is (void_later v)) (at + length nodes.0)
         (with_labelled (label_of r x) at other) seen (same_with (label_of r x) (inner_of r x) at frame other alike) same in

@@ -1,5 +1,6 @@
 -- Facts about what contracts see of nodes that are made, and of labelled items that are seen with their nodes.
-use Rattle.std.proofs.Common.{◌≡◌, ℕ, zero, suc, true, false, List, [], ◌∷◌, ◌++◌, length, min, take, slice_get, set, Some, None, refl, sym, ◌∙◌, ap, rules, arith}
+use Rattle.std.proofs.Common.{◌≡◌, ℕ, zero, suc, true, false, List, [], ◌∷◌, ◌++◌, length, min, take, slice_get, set}
+use Rattle.std.proofs.Common.{Some, None, refl, sym, ◌∙◌, ap, rules, arith}
 use Rattle.std.specs.Prelude.{if◌then◌else◌}
 use Rattle.std.specs.Borrow.{Bor}
 use Rattle.csn_desc.specs.declared.node.Node.{Node}
@@ -131,7 +132,8 @@ module _ (r : Reading) where
       frame-all (with_labelled (label_of r x) m frame) xs nodes many (omega (arith, is))
 
   pub passed-by :
-      (xs : List ExprV) (nodes : List ℕ) (at more : ℕ) (x : ExprV) (node : ℕ) (label : List ℕ) → more ≡ suc at → slice_get xs at ≡ Some x → slice_get nodes at ≡ Some node
+      (xs : List ExprV) (nodes : List ℕ) (at more : ℕ) (x : ExprV) (node : ℕ) (label : List ℕ)
+      → more ≡ suc at → slice_get xs at ≡ Some x → slice_get nodes at ≡ Some node
       → label_of r x ≡ None
       → seen_in (frame_before r [] (take more xs) (take more nodes)) label ≡ seen_in (frame_before r [] (take at xs) (take at nodes)) label
   passed-by xs nodes at more x node label is h g none =
@@ -139,7 +141,8 @@ module _ (r : Reading) where
       ∙ ap (λ o. seen_in (with_labelled o node (frame_before r [] (take at xs) (take at nodes))) label) none
 
   pub other-label :
-      (xs : List ExprV) (nodes : List ℕ) (at more : ℕ) (x : ExprV) (node : ℕ) (label other : List ℕ) → more ≡ suc at → slice_get xs at ≡ Some x → slice_get nodes at ≡ Some node
+      (xs : List ExprV) (nodes : List ℕ) (at more : ℕ) (x : ExprV) (node : ℕ) (label other : List ℕ)
+      → more ≡ suc at → slice_get xs at ≡ Some x → slice_get nodes at ≡ Some node
       → label_of r x ≡ Some other → same_name other label ≡ false
       → seen_in (frame_before r [] (take more xs) (take more nodes)) label ≡ seen_in (frame_before r [] (take at xs) (take at nodes)) label
   other-label xs nodes at more x node label other is h g some unlike =
@@ -148,7 +151,8 @@ module _ (r : Reading) where
       ∙ ap (λ b. if b then Some node else seen_in (frame_before r [] (take at xs) (take at nodes)) label) unlike)
 
   pub has-label :
-      (xs : List ExprV) (nodes : List ℕ) (at more : ℕ) (x : ExprV) (node : ℕ) (label other : List ℕ) → more ≡ suc at → slice_get xs at ≡ Some x → slice_get nodes at ≡ Some node
+      (xs : List ExprV) (nodes : List ℕ) (at more : ℕ) (x : ExprV) (node : ℕ) (label other : List ℕ)
+      → more ≡ suc at → slice_get xs at ≡ Some x → slice_get nodes at ≡ Some node
       → label_of r x ≡ Some other → same_name other label ≡ true
       → seen_in (frame_before r [] (take more xs) (take more nodes)) label ≡ Some node
   has-label xs nodes at more x node label other is h g some sure =

@@ -18,9 +18,18 @@ use Rattle.csn_grammar.proofs.VoidFacts.{no_rule, same_window, same_rule}
 use Rattle.csn_resolve.specs.declared.why.Why.TheVariants.{Undefined, Recursive, IntersectionForm}
 use Rattle.csn_resolve.specs.Seen.{Frame, Seen}
 use Rattle.csn_resolve.specs.Steps.{Step, begins, refused}
-use Rattle.csn_resolve.specs.Walk.{Around, inside, putting_in, behind, outermost, in_turn, turn_begun, entering, node_at, Walk, ItemsWalk, BranchesWalk, RuleWalk, walk_lits, walk_null, walk_bit, walk_octet, walk_field, walk_rest, walk_built_in, walk_undefined, walk_recursive, walk_name, walk_group, walk_labelled, walk_seq, walk_choice, walk_times, walk_many, walk_cut, walk_window, walk_window_behind, walk_no_window, walk_sends}
+use Rattle.csn_resolve.specs.Walk.{Around, inside, putting_in, behind, outermost, in_turn, turn_begun, entering}
+use Rattle.csn_resolve.specs.Walk.{node_at, Walk, ItemsWalk, BranchesWalk, RuleWalk, walk_lits, walk_null, walk_bit}
+use Rattle.csn_resolve.specs.Walk.{walk_octet, walk_field, walk_rest, walk_built_in, walk_undefined, walk_recursive}
+use Rattle.csn_resolve.specs.Walk.{walk_name, walk_group, walk_labelled, walk_seq, walk_choice, walk_times, walk_many}
+use Rattle.csn_resolve.specs.Walk.{walk_cut, walk_window, walk_window_behind, walk_no_window, walk_sends}
 use Rattle.csn_resolve.specs.Walk as walk
-use Rattle.csn_resolve.specs.Gives.{Placed, placed, start_of, count_at, Gives, ItemsGive, EachGives, RuleGives, gives_lits, gives_null, gives_bit, gives_octet, gives_field, gives_rest, gives_spare_bit, gives_spare_low, gives_padding, gives_seq, gives_choice, gives_only, gives_times, gives_many, gives_cut, gives_window, gives_labelled, gives_name, gives_group, gives_received, gives_sent, items_end, items_next, each_end, each_next, rule_plain, rule_tail}
+use Rattle.csn_resolve.specs.Gives.{Placed, placed, start_of, count_at, Gives, ItemsGive, EachGives, RuleGives}
+use Rattle.csn_resolve.specs.Gives.{gives_lits, gives_null, gives_bit, gives_octet, gives_field, gives_rest}
+use Rattle.csn_resolve.specs.Gives.{gives_spare_bit, gives_spare_low, gives_padding, gives_seq, gives_choice}
+use Rattle.csn_resolve.specs.Gives.{gives_only, gives_times, gives_many, gives_cut, gives_window, gives_labelled}
+use Rattle.csn_resolve.specs.Gives.{gives_name, gives_group, gives_received, gives_sent, items_end, items_next}
+use Rattle.csn_resolve.specs.Gives.{each_end, each_next, rule_plain, rule_tail}
 use Rattle.csn_resolve.specs.Resolved.{ResolveSteps, asked_unknown, asked_rule, NameGives, AreRefusals, nodes_of, twice_steps}
 use Rattle.csn_grammar.specs.Shaped.{IsShaped, ItemsShaped, BranchesShaped, AreShaped}
 use Rattle.csn_resolve.proofs.Giving.Once.{same_tail}
@@ -69,7 +78,8 @@ module _ (all : List Node) (rules : RulesV) (r : Reading) where
           let node = node_inside all rules r s (quiet_along p q) within in
           node_laid all (Field 8 (Fixed 1)) at s _ [] g h node.0 (inr refl, (omega arith, omega arith)) refl (none_inside all at)
       -- with an exponent
-      gives_laid {a} {at = at} {seen = seen} {shown = shown} (walk_field {s = s} {x = x} {counts = counts} is c p) q shape (gives_field unit count at_unit at_count g) h within =
+      gives_laid {a} {at = at} {seen = seen} {shown = shown} (walk_field {s = s} {x = x} {counts = counts} is c p)
+          q shape (gives_field unit count at_unit at_count g) h within =
           let node = node_inside all rules r s (first_of (node_at a s) counts p q) within in
           let counted = count_shown all rules r shown seen within.sees c (rest_of (node_at a s) counts p q) at_count in
           node_laid all (Field unit count) at s _ [] g h node.0 (unit_is x unit at_unit, counted) refl (none_inside all at)
@@ -84,11 +94,13 @@ module _ (all : List Node) (rules : RulesV) (r : Reading) where
       gives_laid (walk_rest is p) q shape (gives_many other g given) h within = absurd (no_both is other)
       gives_laid (walk_times none c w l p) q shape (gives_field unit count at_unit at_count g) h within = absurd (cc)
       gives_laid (walk_times none c w l p) q shape (gives_rest one g) h within = elim c [ ]
-      gives_laid {a} {at = at} {seen = seen} {shown = shown} (walk_times {s = s} {counts = counts} {inner = steps} {left = left} none c w l p) q shape (gives_times {inner = inner} count none' at_count g given) h within =
+      gives_laid {a} {at = at} {seen = seen} {shown = shown} (walk_times {s = s} {counts = counts} {inner = steps}
+          {left = left} none c w l p) q shape (gives_times {inner = inner} count none' at_count g given) h within =
           let node = node_inside all rules r s (first_of (node_at a s) (counts ++ (steps ++ left)) p q) within in
           let after = rest_of (node_at a s) (counts ++ (steps ++ left)) p q in
           let counted = count_shown all rules r shown seen within.sees c (first_of counts (steps ++ left) refl after) at_count in
-          let part = gives_laid w (first_of steps left refl (rest_of counts (steps ++ left) refl after)) shape g (inner_holds all (Times count (suc at)) at s _ inner given h) node.1 in
+          let part = gives_laid w (first_of steps left refl (rest_of counts (steps ++ left) refl after)) shape g
+          (inner_holds all (Times count (suc at)) at s _ inner given h) node.1 in
           node_laid all (Times count (suc at)) at s _ inner given h node.0 counted refl (one_inside all at inner part)
       gives_laid (walk_times none c w l p) q shape (gives_many other g given) h within = elim c [ ]
       gives_laid (walk_many other w l p) q shape (gives_field unit count at_unit at_count g) h within = absurd (cc)
@@ -96,7 +108,8 @@ module _ (all : List Node) (rules : RulesV) (r : Reading) where
       gives_laid (walk_many other w l p) q shape (gives_times count none at_count g given) h within = absurd (cc)
       gives_laid {a} {at = at} (walk_many {s = s} {inner = steps} {left = left} other w l p) q shape (gives_many {inner = inner} other' g given) h within =
           let node = node_inside all rules r s (first_of (node_at a s) (steps ++ left) p q) within in
-          let part = gives_laid w (first_of steps left refl (rest_of (node_at a s) (steps ++ left) p q)) shape g (inner_holds all (Many (suc at)) at s _ inner given h) node.1 in
+          let part = gives_laid w (first_of steps left refl (rest_of (node_at a s) (steps ++ left) p q)) shape g
+          (inner_holds all (Many (suc at)) at s _ inner given h) node.1 in
           node_laid all (Many (suc at)) at s _ inner given h node.0 tt refl (one_inside all at inner part)
       -- names
       gives_laid {at = at} (walk_built_in {s = s} is p) q shape (gives_spare_bit named g) h within =
@@ -114,7 +127,8 @@ module _ (all : List Node) (rules : RulesV) (r : Reading) where
       gives_laid (walk_name {n = n} rule is new w p) q shape (gives_spare_bit named g) h within = absurd (no_rule rules n rule (ap is_built_in named) is)
       gives_laid (walk_name {n = n} rule is new w p) q shape (gives_spare_low named g) h within = absurd (no_rule rules n rule (ap is_built_in named) is)
       gives_laid (walk_name {n = n} rule is new w p) q shape (gives_padding named g) h within = absurd (no_rule rules n rule (ap is_built_in named) is)
-      gives_laid {a} {at = at} {seen = seen} {nodes = nodes} (walk_name {s = s} {n = n} {inner = steps} rule is new w p) q shape (gives_name other found g) h within =
+      gives_laid {a} {at = at} {seen = seen} {nodes = nodes} (walk_name {s = s} {n = n} {inner = steps}
+          rule is new w p) q shape (gives_name other found g) h within =
           let P : Rule → Type 0 = λ z. RuleGives rules r z at seen nodes in
           rule_laid w (rest_of (entering a s) steps p q) (rule_shaped rules n rule shaped is) (subst P (same_rule rules n found is) g) h
           (name_inside all rules r n s (first_of (entering a s) steps p q) within)
@@ -125,22 +139,32 @@ module _ (all : List Node) (rules : RulesV) (r : Reading) where
           let node = node_inside all rules r s (first_of (node_at a s) steps p q) within in
           let part = gives_laid w (rest_of (node_at a s) steps p q) shape g (inner_holds all (Named label (suc at)) at s _ inner given h) node.1 in
           node_laid all (Named label (suc at)) at s _ inner given h node.0 tt refl (one_inside all at inner part)
-      gives_laid {a} {at = at} {seen = seen} {shown = shown} (walk_window {s = s} {x = x} {y = y} {counts = counts} {inner = steps} w is c k p) q shape (gives_window {inner = inner} v count window at_count g given) h within =
+      gives_laid {a} {at = at} {seen = seen} {shown = shown} (walk_window {s = s} {x = x} {y = y} {counts = counts}
+          {inner = steps} w is c k p) q shape (gives_window {inner = inner} v count window at_count g given)
+          h within =
           let same : v ≡ record { width = w; part = y } = same_window x y window (left_window x y w is) in
           let P : WindowV → Type 0 = λ z. Gives rules r z.part (suc at) seen inner in
           let node = node_inside all rules r s (first_of (node_at a s) (counts ++ steps) p q) within in
           let after = rest_of (node_at a s) (counts ++ steps) p q in
-          let counted = count_shown all rules r shown seen within.sees c (first_of counts steps refl after) (ap (λ z. count_at seen z.width.count) (sym same) ∙ at_count) in
-          let part = gives_laid k (rest_of counts steps refl after) shape.1 (subst P same g) (inner_holds all (Window v.width.unit count (suc at)) at s _ inner given h) node.1 in
-          node_laid all (Window v.width.unit count (suc at)) at s _ inner given h node.0 (width_unit x v.width is (ap (λ z. z.width) same), counted) refl (one_inside all at inner part)
-      gives_laid {a} {at = at} {seen = seen} {shown = shown} (walk_window_behind {s = s} {x = x} {y = y} {counts = counts} {inner = steps} w none is k c p) q shape (gives_window {inner = inner} v count window at_count g given) h within =
+          let counted = count_shown all rules r shown seen within.sees c (first_of counts steps refl after)
+          (ap (λ z. count_at seen z.width.count) (sym same) ∙ at_count) in
+          let part = gives_laid k (rest_of counts steps refl after) shape.1 (subst P same g)
+          (inner_holds all (Window v.width.unit count (suc at)) at s _ inner given h) node.1 in
+          node_laid all (Window v.width.unit count (suc at)) at s _ inner given h node.0
+          (width_unit x v.width is (ap (λ z. z.width) same), counted) refl (one_inside all at inner part)
+      gives_laid {a} {at = at} {seen = seen} {shown = shown} (walk_window_behind {s = s} {x = x} {y = y}
+          {counts = counts} {inner = steps} w none is k c p) q shape
+          (gives_window {inner = inner} v count window at_count g given) h within =
           let same : v ≡ record { width = w; part = x } = same_window x y window (right_window x y w none is) in
           let after = rest_of (node_at a s) (steps ++ counts) p q in
           let P : WindowV → Type 0 = λ z. Gives rules r z.part (suc at) seen inner in
           let node = node_inside all rules r s (first_of (node_at a s) (steps ++ counts) p q) within in
-          let counted = count_shown all rules r shown seen within.sees c (rest_of steps counts refl after) (ap (λ z. count_at seen z.width.count) (sym same) ∙ at_count) in
-          let part = gives_laid k (first_of steps counts refl after) shape.0 (subst P same g) (inner_holds all (Window v.width.unit count (suc at)) at s _ inner given h) node.1 in
-          node_laid all (Window v.width.unit count (suc at)) at s _ inner given h node.0 (width_unit y v.width is (ap (λ z. z.width) same), counted) refl (one_inside all at inner part)
+          let counted = count_shown all rules r shown seen within.sees c (rest_of steps counts refl after)
+          (ap (λ z. count_at seen z.width.count) (sym same) ∙ at_count) in
+          let part = gives_laid k (first_of steps counts refl after) shape.0 (subst P same g)
+          (inner_holds all (Window v.width.unit count (suc at)) at s _ inner given h) node.1 in
+          node_laid all (Window v.width.unit count (suc at)) at s _ inner given h node.0
+          (width_unit y v.width is (ap (λ z. z.width) same), counted) refl (one_inside all at inner part)
       gives_laid {a} (walk_no_window {s = s} {x = x} {left = left} {right = right} none none' w w' p) q shape g h within =
           absurd (rest_of (node_at a s) (refused IntersectionForm (start_of x) ∷ (left ++ right)) p q)
       gives_laid (walk_sends {left = left} {right = right} w w' p) q shape (gives_received is g) h within =
@@ -173,10 +197,12 @@ module _ (all : List Node) (rules : RulesV) (r : Reading) where
           → PartsLaid all true shown round parts at (at + length nodes)
       items_laid (walk.items_end p) q shape (items_end none end) h alike within =
           parts_along all (sym none) (laid_end (omega (arith, ap length end)))
-      items_laid {frame = frame} {at = at} {other = other} {shown = shown} (walk.items_next {x = x} {first = steps} {rest = more} left w l others p) q shape (items_next first rest g later now given) h alike within =
+      items_laid {frame = frame} {at = at} {other = other} {shown = shown} (walk.items_next {x = x} {first = steps}
+          {rest = more} left w l others p) q shape (items_next first rest g later now given) h alike within =
           let here = holds_along all at given h in
           let first_here = holds_first all at first rest here in
-          let one = gives_laid w (first_of steps (left ++ more) p q) shape.0 g first_here (record { few = within.few; within = within.within; sees = (alike, within.sees) }) in
+          let one = gives_laid w (first_of steps (left ++ more) p q) shape.0 g first_here
+          (record { few = within.few; within = within.within; sees = (alike, within.sees) }) in
           let behind_it = items_laid others (rest_of left more refl (rest_of steps (left ++ more) p q)) shape.1 later (holds_rest all at first rest here)
           (item_shown all rules r x at shown frame other g first_here alike) (more_inside all rules r (still_shown all at shown) within) in
           parts_along all (sym now) (laid_next (at + length first) refl one
@@ -190,10 +216,12 @@ module _ (all : List Node) (rules : RulesV) (r : Reading) where
           → PartsLaid all false shown round parts at (at + length nodes)
       each_laid (walk.branches_end p) q shape kept_end (each_end none end) h within =
           parts_along all (sym none) (laid_end (omega (arith, ap length end)))
-      each_laid {at = at} (walk.branches_next {first = steps} {left = left} {rest = more} w l others p) q shape (kept_next full kept) (each_next first rest g later now given) h within =
+      each_laid {at = at} (walk.branches_next {first = steps} {left = left} {rest = more} w l others p) q shape
+          (kept_next full kept) (each_next first rest g later now given) h within =
           let here = holds_along all at given h in
           let one = gives_laid w (first_of steps (left ++ more) p q) shape.0 g (holds_first all at first rest here) within in
-          let behind_it = each_laid others (rest_of left more refl (rest_of steps (left ++ more) p q)) shape.1 kept later (holds_rest all at first rest here) within in
+          let behind_it = each_laid others (rest_of left more refl (rest_of steps (left ++ more) p q))
+          shape.1 kept later (holds_rest all at first rest here) within in
           parts_along all (sym now) (laid_next (at + length first) refl one
           (parts_to all (omega (arith, ap length given, length-append first rest)) behind_it))
       each_laid (walk.branches_next {first = steps} {left = left} {rest = more} w l others p) q shape (kept_void void kept) g h within =
@@ -209,7 +237,8 @@ module _ (all : List Node) (rules : RulesV) (r : Reading) where
           → Gives rules r x at seen nodes → Holds all at nodes → IsInside all rules r a seen shown round
           → Laid all shown round at (at + length nodes)
       only_laid (walk.branches_end p) q shape kept_end one g h within = absurd (cc)
-      only_laid {at = at} {seen = seen} {nodes = nodes} (walk.branches_next {first = steps} {left = left} {rest = more} w l others p) q shape (kept_next full kept) one g h within =
+      only_laid {at = at} {seen = seen} {nodes = nodes} (walk.branches_next {first = steps} {left = left}
+          {rest = more} w l others p) q shape (kept_next full kept) one g h within =
           let P : ExprV → Type 0 = λ z. Gives rules r z at seen nodes in
           gives_laid w (first_of steps (left ++ more) p q) shape.0 (subst P (sym (only_is one)) g) h within
       only_laid (walk.branches_next {first = steps} {left = left} {rest = more} w l others p) q shape (kept_void void kept) one g h within =
@@ -224,7 +253,9 @@ module _ (all : List Node) (rules : RulesV) (r : Reading) where
       rule_laid (walk.rule_plain is w) q shape (rule_plain is' g) h within = gives_laid w q shape g h within
       rule_laid (walk.rule_plain is w) q shape (rule_tail tail many stop parts turn_parts items turn is' i many_is t stop_is p) h within = absurd (cc)
       rule_laid (walk.rule_tail tail is i t l p) q shape (rule_plain is' g) h within = absurd (cc)
-      rule_laid {a} {rule} {at = at} {seen = seen} {shown = shown} {nodes = nodes} (walk.rule_tail {items = steps} {turn = turns} {left = left} tail is i t l p) q shape (rule_tail tail' many stop parts turn_parts items turn is' i' many_is t' stop_is p') h within =
+      rule_laid {a} {rule} {at = at} {seen = seen} {shown = shown} {nodes = nodes}
+          (walk.rule_tail {items = steps} {turn = turns} {left = left} tail is i t l p) q shape
+          (rule_tail tail' many stop parts turn_parts items turn is' i' many_is t' stop_is p') h within =
           let same : tail' ≡ tail = same_tail rule is' is in
           let P : TailV → Type 0 = λ z. ItemsGive rules r z.items (suc at) [] seen parts items in
           let Q : TailV → Type 0 = λ z. ItemsGive rules r z.items (many + 3) [] seen turn_parts turn in

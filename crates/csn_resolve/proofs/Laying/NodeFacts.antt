@@ -9,7 +9,11 @@ use Rattle.csn_grammar.specs.ExprV.{ExprV, expr, ExprsV, sends}
 use Rattle.csn_grammar.specs.RulesV.{RulesV}
 use Rattle.csn_grammar.specs.Environment.{label_of}
 use Rattle.csn_resolve.specs.Seen.{Frame, Seen}
-use Rattle.csn_resolve.specs.Gives.{Placed, Gives, ItemsGive, RuleGives, gives_lits, gives_null, gives_bit, gives_octet, gives_field, gives_rest, gives_spare_bit, gives_spare_low, gives_padding, gives_seq, gives_choice, gives_only, gives_times, gives_many, gives_cut, gives_window, gives_labelled, gives_name, gives_group, gives_received, gives_sent, items_end, items_next, rule_plain, rule_tail}
+use Rattle.csn_resolve.specs.Gives.{Placed, Gives, ItemsGive, RuleGives, gives_lits, gives_null, gives_bit}
+use Rattle.csn_resolve.specs.Gives.{gives_octet, gives_field, gives_rest, gives_spare_bit, gives_spare_low}
+use Rattle.csn_resolve.specs.Gives.{gives_padding, gives_seq, gives_choice, gives_only, gives_times, gives_many}
+use Rattle.csn_resolve.specs.Gives.{gives_cut, gives_window, gives_labelled, gives_name, gives_group, gives_received}
+use Rattle.csn_resolve.specs.Gives.{gives_sent, items_end, items_next, rule_plain, rule_tail}
 use Rattle.csn_resolve.proofs.Basics.Options.{no_none}
 use Rattle.csn_resolve.proofs.Laying.Holding.{Holds, holds_along}
 use Rattle.csn_resolve.proofs.Meaning.SameTails.{AllFrom}

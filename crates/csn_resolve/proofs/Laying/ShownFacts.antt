@@ -1,6 +1,7 @@
 -- Labelled items that are seen, with what stands behind their labels and with their nodes: the nodes are among
 -- those that are shown, and where a count may stand on the item, its node is a field of 1 to 16 bits.
-use Rattle.std.proofs.Common.{◌≡◌, ℕ, zero, suc, ◌*◌, ◌≤◌, Bool, true, false, nat_lt, ltb-false, List, [], ◌∷◌, refl, sym, ◌∙◌, ap, subst, arith, Option, Some, None, Contains}
+use Rattle.std.proofs.Common.{◌≡◌, ℕ, zero, suc, ◌*◌, ◌≤◌, Bool, true, false, nat_lt, ltb-false, List, [], ◌∷◌, refl}
+use Rattle.std.proofs.Common.{sym, ◌∙◌, ap, subst, arith, Option, Some, None, Contains}
 use Rattle.std.specs.Prelude.{slice_get, if◌then◌else◌, ◌==◌, IsSomeAnd}
 use Rattle.std.specs.Option.{option_map, option_or, option_and_then}
 use Rattle.std.proofs.lemmas.Bool.{or_parts}

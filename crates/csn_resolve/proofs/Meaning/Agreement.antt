@@ -1,6 +1,7 @@
 -- The fields that an expression sees, and the values that its node sees: the same labels with the same bits.
 -- So counts are the same.
-use Rattle.std.proofs.Common.{◌≡◌, ℕ, ◌<◌, ◌≤◌, ◌+◌, ◌*◌, Bool, true, false, if◌then◌else◌, List, [], ◌∷◌, ◌==◌, refl, sym, ◌∙◌, ap, arith, inl, inr, Option, Some, None}
+use Rattle.std.proofs.Common.{◌≡◌, ℕ, ◌<◌, ◌≤◌, ◌+◌, ◌*◌, Bool, true, false, if◌then◌else◌, List, [], ◌∷◌, ◌==◌, refl}
+use Rattle.std.proofs.Common.{sym, ◌∙◌, ap, arith, inl, inr, Option, Some, None}
 use Rattle.std.specs.Option.{option_map, option_or}
 use Rattle.std.proofs.lemmas.Bool.{cases_Bool, eqb-true, eq-eqb}
 use Rattle.csn_desc.specs.declared.node.Count.{Count}
@@ -162,7 +163,8 @@ module _ (all : List Node) where
           (agree_kept at at b v (fields ∷ env) (nodes ∷ seen) (omega arith) a)
 
       own : is_named all at ≡ true → desc.value_of (with_value all at b v) at ≡ Some (number_of b)
-      own is = ap (λ t. desc.value_of (if t then (at, b) ∷ v else v) at) is ∙ ap (λ t. if t then Some (number_of b) else desc.value_of v at) (eq-eqb at at refl)
+      own is = ap (λ t. desc.value_of (if t then (at, b) ∷ v else v) at) is
+          ∙ ap (λ t. if t then Some (number_of b) else desc.value_of v at) (eq-eqb at at refl)
 
       by_label :
           (o : Option (List ℕ)) → label_of r x ≡ o

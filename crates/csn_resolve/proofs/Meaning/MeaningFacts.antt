@@ -25,15 +25,22 @@ use Rattle.csn_grammar.specs.Strings as blocks
 use Rattle.csn_grammar.proofs.VoidFacts.{same_rule}
 use Rattle.csn_resolve.specs.Seen.{Frame, Seen}
 use Rattle.csn_grammar.specs.Shaped.{IsShaped, AreShaped}
-use Rattle.csn_resolve.specs.Gives.{Placed, placed, Gives, ItemsGive, EachGives, RuleGives, gives_lits, gives_null, gives_bit, gives_octet, gives_field, gives_rest, gives_spare_bit, gives_spare_low, gives_padding, gives_seq, gives_choice, gives_only, gives_times, gives_many, gives_cut, gives_window, gives_labelled, gives_name, gives_group, gives_received, gives_sent, items_end, items_next, each_end, each_next, rule_plain, rule_tail}
+use Rattle.csn_resolve.specs.Gives.{Placed, placed, Gives, ItemsGive, EachGives, RuleGives, gives_lits, gives_null}
+use Rattle.csn_resolve.specs.Gives.{gives_bit, gives_octet, gives_field, gives_rest, gives_spare_bit, gives_spare_low}
+use Rattle.csn_resolve.specs.Gives.{gives_padding, gives_seq, gives_choice, gives_only, gives_times, gives_many}
+use Rattle.csn_resolve.specs.Gives.{gives_cut, gives_window, gives_labelled, gives_name, gives_group, gives_received}
+use Rattle.csn_resolve.specs.Gives.{gives_sent, items_end, items_next, each_end, each_next, rule_plain, rule_tail}
 use Rattle.csn_resolve.specs.Resolved.{nodes_of, IsResolved}
 use Rattle.csn_resolve.proofs.Emptiness.Full.{gives_full}
 use Rattle.csn_resolve.proofs.Laying.Holding.{Holds, holds_along, holds_from, holds_first, holds_rest, holds_behind, node_from}
 use Rattle.csn_resolve.proofs.Meaning.Agreement.{Agree, counts_agree, agree_later, agree_item}
 use Rattle.csn_resolve.proofs.Laying.NodeFacts.{gives_some, items_behind, label_named}
-use Rattle.csn_resolve.proofs.Meaning.SameLeaves.{Same, lits_same, null_same, is_one_bit, is_one_octet, unit_same, field_same, rest_same, padding_same, spare_same, spare_zero, spare_one_low}
+use Rattle.csn_resolve.proofs.Meaning.SameLeaves.{Same, lits_same, null_same, is_one_bit, is_one_octet, unit_same}
+use Rattle.csn_resolve.proofs.Meaning.SameLeaves.{field_same, rest_same, padding_same, spare_same, spare_zero}
+use Rattle.csn_resolve.proofs.Meaning.SameLeaves.{spare_one_low}
 use Rattle.csn_resolve.proofs.Meaning.SameParts.{SameItems, same_end, same_next, seq_same, cut_same, times_same, many_same}
-use Rattle.csn_resolve.proofs.Meaning.SameForms.{SameEach, SameRule, choice_same, only_same, window_same, label_same, group_same, received_same, sent_same, name_same}
+use Rattle.csn_resolve.proofs.Meaning.SameForms.{SameEach, SameRule, choice_same, only_same, window_same, label_same}
+use Rattle.csn_resolve.proofs.Meaning.SameForms.{group_same, received_same, sent_same, name_same}
 use Rattle.csn_resolve.proofs.Meaning.SameForms as forms
 use Rattle.csn_resolve.proofs.Meaning.SameTails.{tail_same}
 use Rattle.csn_resolve.proofs.Naming.TailShaped.{again_some, rule_shaped}
@@ -158,7 +165,8 @@ module _ (rules : RulesV) (r : Reading) where
             tail_same rules r d at env seen rule tail is (again_some rule tail is body) (items_full i) many stop parts turn_parts
             (items_behind rules r at (omega arith) i) (omega (arith, many_is)) at_many.0
             (node_from d.nodes (omega arith) at_many.1.0) (node_from d.nodes (omega arith) at_many.1.1.0) at_stop.0
-            (λ w fits. items_same t (holds_first d.nodes (many + 3) turn last at_turn) env w [] (tt, agree_later at (many + 3) w env seen (omega (arith, many_is)) fits))
+            (λ w fits. items_same t (holds_first d.nodes (many + 3) turn last at_turn) env w []
+            (tt, agree_later at (many + 3) w env seen (omega (arith, many_is)) fits))
             v a (items_same i (holds_first d.nodes (suc at) items turns here) env v [] (tt, agree_later at (suc at) v env seen (omega arith) a))
             all.0
 

@@ -23,8 +23,11 @@ use Rattle.csn_grammar.specs.Names.{is_built_in, rule_of}
 use Rattle.csn_grammar.specs.Forms.{WindowV, window_of}
 use Rattle.csn_grammar.specs.Environment.{Env, count_of}
 use Rattle.csn_grammar.specs.Void.{Kept}
-use Rattle.csn_grammar.specs.Meaning.{Means, RuleMeans, means_spare_bit, means_spare_low, means_padding, means_choice, means_only, means_window, means_labelled, means_name, means_group, means_received, means_sent}
-use Rattle.csn_grammar.specs.Follow.{Follow, RuleFollows, follows_whole, follows_leaf, follows_choice, follows_window, follows_labelled, follows_name, follows_group, follows_received, follows_sent}
+use Rattle.csn_grammar.specs.Meaning.{Means, RuleMeans, means_spare_bit, means_spare_low, means_padding, means_choice}
+use Rattle.csn_grammar.specs.Meaning.{means_only, means_window, means_labelled, means_name, means_group}
+use Rattle.csn_grammar.specs.Meaning.{means_received, means_sent}
+use Rattle.csn_grammar.specs.Follow.{Follow, RuleFollows, follows_whole, follows_leaf, follows_choice, follows_window}
+use Rattle.csn_grammar.specs.Follow.{follows_labelled, follows_name, follows_group, follows_received, follows_sent}
 use Rattle.csn_grammar.proofs.VoidFacts.{no_rule, same_rule, same_window, kept_once}
 use Rattle.csn_resolve.proofs.Meaning.SameLeaves.{Same, node_same, spare_built}
 use Rattle.csn_resolve.proofs.Giving.Once.{not_two}
@@ -66,7 +69,8 @@ module _ (rules : RulesV) (r : Reading) (d : DescV) where
   get_along : {xs ys : List ExprV} {x : ExprV} (j : ℕ) → xs ≡ ys → slice_get xs j ≡ Some x → slice_get ys j ≡ Some x
   get_along j p at = ap (λ l. slice_get l j) (sym p) ∙ at
 
-  module _ {bs : BranchesV} {xs : List ExprV} {parts : List ℕ} {env : Env} {v : Values} (kept : Kept rules r bs xs) (two : 2 ≤ length xs) (same : SameEach xs parts env v) where
+  module _ {bs : BranchesV} {xs : List ExprV} {parts : List ℕ} {env : Env} {v : Values} (kept : Kept rules r bs xs)
+      (two : 2 ≤ length xs) (same : SameEach xs parts env v) where
     choice_to :
         {s e o : ℕ} {b : List ℕ} {t : TreeV} → Means rules r (expr s e (choice bs)) o env b t → NodeMeans d (Choice parts) o v b t
     choice_to {b = b} (means_choice {j = j} {t = t} ys kept' two' at h) =
@@ -124,7 +128,8 @@ module _ (rules : RulesV) (r : Reading) (d : DescV) where
 
   -- ---- windows
 
-  module _ {x y : ExprV} {i : ℕ} {env : Env} {v : Values} (w : WindowV) (count : Count) (is : window_of x y ≡ Some w) (agree : count_of env w.width.count ≡ values.count_of v count) (same : Same rules r d w.part i env v) where
+  module _ {x y : ExprV} {i : ℕ} {env : Env} {v : Values} (w : WindowV) (count : Count) (is : window_of x y ≡ Some w)
+      (agree : count_of env w.width.count ≡ values.count_of v count) (same : Same rules r d w.part i env v) where
     window_to :
         {s e o : ℕ} {b : List ℕ} {t : TreeV}
         → Means rules r (expr s e (both x y)) o env b t → NodeMeans d (Window w.width.unit count i) o v b t

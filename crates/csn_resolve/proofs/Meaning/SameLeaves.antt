@@ -1,6 +1,7 @@
 -- An expression and a node that mean the same bits with the same trees, and follow the same bits: literals,
 -- fields and spare parts.
-use Rattle.std.proofs.Common.{◌≡◌, ◌↔◌, ℕ, ◌*◌, Bool, true, false, ◌||◌, List, [], ◌++◌, append-nil, refl, sym, ◌∙◌, ap, subst, arith, codes, Some, None, IsTrue}
+use Rattle.std.proofs.Common.{◌≡◌, ◌↔◌, ℕ, ◌*◌, Bool, true, false, ◌||◌, List, [], ◌++◌, append-nil, refl, sym, ◌∙◌}
+use Rattle.std.proofs.Common.{ap, subst, arith, codes, Some, None, IsTrue}
 use Rattle.std.specs.Prelude.{slice_get}
 use Rattle.csn_desc.specs.declared.reading.Reading.{Reading}
 use Rattle.csn_desc.specs.declared.symbol.Symbol.{Symbol}
@@ -25,8 +26,12 @@ use Rattle.csn_grammar.specs.RulesV.{RulesV}
 use Rattle.csn_grammar.specs.Names.{same_name, is_built_in}
 use Rattle.csn_grammar.specs.Forms.{unit_of, is_bit, is_spare_name, is_leaf}
 use Rattle.csn_grammar.specs.Environment.{Env, count_of}
-use Rattle.csn_grammar.specs.Meaning.{Means, means_lits, means_null, means_bit, means_octet, means_field, means_rest, means_spare_bit, means_spare_low, means_padding, means_times, means_many, means_name}
-use Rattle.csn_grammar.specs.Follow.{Follow, follows_whole, follows_leaf, follows_seq, follows_choice, follows_times, follows_many, follows_cut, follows_window, follows_labelled, follows_name, follows_group, follows_received, follows_sent}
+use Rattle.csn_grammar.specs.Meaning.{Means, means_lits, means_null, means_bit, means_octet, means_field, means_rest}
+use Rattle.csn_grammar.specs.Meaning.{means_spare_bit, means_spare_low, means_padding, means_times, means_many}
+use Rattle.csn_grammar.specs.Meaning.{means_name}
+use Rattle.csn_grammar.specs.Follow.{Follow, follows_whole, follows_leaf, follows_seq, follows_choice, follows_times}
+use Rattle.csn_grammar.specs.Follow.{follows_many, follows_cut, follows_window, follows_labelled, follows_name}
+use Rattle.csn_grammar.specs.Follow.{follows_group, follows_received, follows_sent}
 use Rattle.csn_grammar.proofs.VoidFacts.{no_rule}
 use Rattle.csn_grammar.proofs.Prefixes.{spare_bit_name, spare_low_name, padding_name}
 use Rattle.csn_resolve.specs.Seen.{Seen}
@@ -50,7 +55,8 @@ no_field s e x (Number n) none leaf = let other : is_leaf (expr s e (power x (Nu
 no_field s e x (Linear m label c) none leaf = let other : is_leaf (expr s e (power x (Linear m label c))) ≡ false = rw none refl in cc
 
 -- a part with a unit, and a count, is a field
-field_leaf : (s e unit : ℕ) (x : ExprV) (k : Exponent) (seen : Seen ℕ) (count : Count) → unit_of x ≡ Some unit → count_at seen k ≡ Some count → is_leaf (expr s e (power x k)) ≡ true
+field_leaf : (s e unit : ℕ) (x : ExprV) (k : Exponent) (seen : Seen ℕ) (count : Count)
+    → unit_of x ≡ Some unit → count_at seen k ≡ Some count → is_leaf (expr s e (power x k)) ≡ true
 field_leaf s e unit x Any seen count is counted = cc
 field_leaf s e unit x (Number n) seen count is counted = rw is refl
 field_leaf s e unit x (Linear m label c) seen count is counted = rw is refl

@@ -20,8 +20,12 @@ use Rattle.csn_grammar.specs.RulesV.{RulesV}
 use Rattle.csn_grammar.specs.Forms.{unit_of, is_bit}
 use Rattle.csn_grammar.specs.Environment.{Frame, Env, count_of, with_item}
 use Rattle.csn_grammar.specs.Void.{SomeVoid}
-use Rattle.csn_grammar.specs.Meaning.{Means, ItemsMean, TimesMean, ManyMean, LeadMean, means_field, means_rest, means_seq, means_times, means_many, means_cut_all, means_cut, items_end, items_next, times_end, times_next, many_end, many_next, lead_last, lead_next}
-use Rattle.csn_grammar.specs.Follow.{Follow, ItemsFollow, TimesFollow, ManyFollow, follows_whole, follows_leaf, follows_seq, follows_times, follows_many, follows_cut, items_here, items_later, times_here, times_later, many_here, many_later}
+use Rattle.csn_grammar.specs.Meaning.{Means, ItemsMean, TimesMean, ManyMean, LeadMean, means_field, means_rest}
+use Rattle.csn_grammar.specs.Meaning.{means_seq, means_times, means_many, means_cut_all, means_cut, items_end}
+use Rattle.csn_grammar.specs.Meaning.{items_next, times_end, times_next, many_end, many_next, lead_last, lead_next}
+use Rattle.csn_grammar.specs.Follow.{Follow, ItemsFollow, TimesFollow, ManyFollow, follows_whole, follows_leaf}
+use Rattle.csn_grammar.specs.Follow.{follows_seq, follows_times, follows_many, follows_cut, items_here, items_later}
+use Rattle.csn_grammar.specs.Follow.{times_here, times_later, many_here, many_later}
 use Rattle.csn_resolve.specs.Seen.{Seen}
 use Rattle.csn_resolve.specs.Gives.{count_at}
 use Rattle.csn_resolve.proofs.Meaning.SameLeaves.{Same, node_same}

@@ -11,7 +11,9 @@ use Rattle.csn_grammar.specs.Environment.{Env}
 use Rattle.csn_grammar.specs.TailForm.{TailV}
 use Rattle.csn_grammar.specs.Void.{SomeVoid, void_here, void_later}
 use Rattle.csn_grammar.specs.Meaning.{Means, ItemsMean, ManyMean, TailMeans, means_lits, means_seq, items_next, many_end, many_next, tail_stop, tail_again}
-use Rattle.csn_grammar.specs.Follow.{Begins, Follow, ItemsFollow, ManyFollow, TailFollows, follows_whole, follows_leaf, follows_seq, items_here, items_later, many_here, many_later, tail_items, tail_stops, tail_goes_on, tail_turns}
+use Rattle.csn_grammar.specs.Follow.{Begins, Follow, ItemsFollow, ManyFollow, TailFollows, follows_whole}
+use Rattle.csn_grammar.specs.Follow.{follows_leaf, follows_seq, items_here, items_later, many_here, many_later}
+use Rattle.csn_grammar.specs.Follow.{tail_items, tail_stops, tail_goes_on, tail_turns}
 use Rattle.csn_desc.proofs.BitFacts.{length-spelled}
 
 abbrev pub word : List Symbol → ExprV
@@ -100,10 +102,12 @@ module _ (rules : RulesV) (r : Reading) where
         → b ≡ b1 ++ (b2 ++ b3) → b3 ≡ spelled tail.end.stop.run (p + length b2) → TailMeans rules r tail o env b ts turns
     turns_tail {b3 = b3} b1 place h (many_end e) joins stop =
         tail_stop b1 b3 (joins ∙ ap (λ z. b1 ++ (z ++ b3)) e) h (stop ∙ ap (spelled tail.end.stop.run) (omega (arith, place, ap length e)))
-    turns_tail {o = o} {p = p} {b2 = b2} {b3 = b3} b1 place h (many_next c1 c2 joins' some (means_seq (items_next d1 d2 joins'' (means_lits q) h')) others) joins stop =
+    turns_tail {o = o} {p = p} {b2 = b2} {b3 = b3} b1 place h
+        (many_next c1 c2 joins' some (means_seq (items_next d1 d2 joins'' (means_lits q) h')) others) joins stop =
         tail_again b1 d1 (d2 ++ (c2 ++ b3)) (joins ∙ ap (λ z. b1 ++ z) (grouped d1 d2 c2 b3 joins' joins'')) h
         (q ∙ ap (spelled tail.end.again.run) place)
-        (turns_tail {o = o + length b1 + length d1} d2 (omega (arith, place, ap length joins'', length-append d1 d2)) (items_from (ap (λ z. z + length d1) place) h') others refl
+        (turns_tail {o = o + length b1 + length d1} d2 (omega (arith, place, ap length joins'', length-append d1 d2))
+        (items_from (ap (λ z. z + length d1) place) h') others refl
         (stop ∙ ap (spelled tail.end.stop.run) (omega (arith, ap length joins', length-append c1 c2))))
 
     pub turned_tail :
@@ -154,7 +158,8 @@ module _ (rules : RulesV) (r : Reading) where
       pub tail_begun :
           {o : ℕ} {env : Env} {b : List ℕ} → 1 ≤ length tail.end.again.run → TailFollows rules r tail o env b → TailBegun o env b
       tail_begun some (tail_items full' f) = in_items f
-      tail_begun some (tail_stops b1 b2 joins h begins) = in_stop b1 [] b2 joins h (many_end refl) (begins.0, ap (spelled tail.end.stop.run) (omega arith) ∙ begins.1)
+      tail_begun some (tail_stops b1 b2 joins h begins) = in_stop b1 [] b2 joins h (many_end refl)
+          (begins.0, ap (spelled tail.end.stop.run) (omega arith) ∙ begins.1)
       tail_begun {o = o} some (tail_goes_on b1 b2 joins h begins) =
           in_turns b1 b2 joins h
           (many_here (follows_seq turn_full (items_here (follows_leaf (spelled tail.end.again.run (o + length b1)) begins.0 refl begins.1 (means_lits refl)))))
@@ -178,7 +183,9 @@ module _ (rules : RulesV) (r : Reading) where
       turns_follow {o = o} b1 place h (many_later c1 c2 joins' some (means_seq (items_next d1 d2 joins'' (means_lits q) h')) others) joins =
           tail_turns b1 d1 (d2 ++ c2) (joins ∙ ap (λ z. b1 ++ z) (joins' ∙ ap (λ z. z ++ c2) joins'' ∙ append_assoc d1 d2 c2)) h
           (q ∙ ap (spelled tail.end.again.run) place)
-          (turns_follow {o = o + length b1 + length d1} d2 (omega (arith, place, ap length joins'', length-append d1 d2)) (items_from (ap (λ z. z + length d1) place) h') others refl)
+          (turns_follow {o = o + length b1 + length d1} d2
+          (omega (arith, place, ap length joins'', length-append d1 d2))
+          (items_from (ap (λ z. z + length d1) place) h') others refl)
 
       stop_follows :
           {o p : ℕ} {env : Env} {b b2 : List ℕ} {ts turns : Trees} (b1 b3 : List ℕ)
@@ -190,7 +197,9 @@ module _ (rules : RulesV) (r : Reading) where
       stop_follows {o = o} b1 b3 place h (many_next c1 c2 joins' some (means_seq (items_next d1 d2 joins'' (means_lits q) h')) others) joins begins =
           tail_turns b1 d1 (d2 ++ (c2 ++ b3)) (joins ∙ ap (λ z. b1 ++ z) (grouped d1 d2 c2 b3 joins' joins'')) h
           (q ∙ ap (spelled tail.end.again.run) place)
-          (stop_follows {o = o + length b1 + length d1} d2 b3 (omega (arith, place, ap length joins'', length-append d1 d2)) (items_from (ap (λ z. z + length d1) place) h') others refl
+          (stop_follows {o = o + length b1 + length d1} d2 b3
+          (omega (arith, place, ap length joins'', length-append d1 d2))
+          (items_from (ap (λ z. z + length d1) place) h') others refl
           (begins.0, ap (spelled tail.end.stop.run) (omega (arith, ap length joins', length-append c1 c2)) ∙ begins.1))
 
       pub begun_tail : {o : ℕ} {env : Env} {b : List ℕ} → TailBegun o env b → TailFollows rules r tail o env b

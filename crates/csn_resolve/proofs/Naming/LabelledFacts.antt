@@ -19,7 +19,11 @@ use Rattle.csn_grammar.specs.TailForm.{TailV, tail_of_body}
 use Rattle.csn_grammar.proofs.VoidFacts.{no_rule, same_rule}
 use Rattle.csn_resolve.specs.Seen.{Seen, inner_of}
 use Rattle.csn_resolve.specs.Counts.{Narrow, narrow_field, narrow_name, narrow_group, narrow_received, narrow_sent}
-use Rattle.csn_resolve.specs.Gives.{Placed, placed, count_at, Gives, RuleGives, gives_lits, gives_null, gives_bit, gives_octet, gives_field, gives_rest, gives_spare_bit, gives_spare_low, gives_padding, gives_seq, gives_choice, gives_only, gives_times, gives_many, gives_cut, gives_window, gives_labelled, gives_name, gives_group, gives_received, gives_sent, rule_plain, rule_tail}
+use Rattle.csn_resolve.specs.Gives.{Placed, placed, count_at, Gives, RuleGives, gives_lits, gives_null, gives_bit}
+use Rattle.csn_resolve.specs.Gives.{gives_octet, gives_field, gives_rest, gives_spare_bit, gives_spare_low}
+use Rattle.csn_resolve.specs.Gives.{gives_padding, gives_seq, gives_choice, gives_only, gives_times, gives_many}
+use Rattle.csn_resolve.specs.Gives.{gives_cut, gives_window, gives_labelled, gives_name, gives_group, gives_received}
+use Rattle.csn_resolve.specs.Gives.{gives_sent, rule_plain, rule_tail}
 use Rattle.csn_resolve.proofs.Basics.Options.{no_none}
 
 -- one field of constant width, of 1 to 16 bits

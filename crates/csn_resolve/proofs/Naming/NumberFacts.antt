@@ -1,5 +1,7 @@
 -- Rules looked up by their names.
-use Rattle.std.proofs.Common.{◌≡◌, ℕ, suc, ◌+◌, ◌-◌, ◌≤◌, ◌<◌, Bool, true, false, ◌||◌, List, [], ◌∷◌, ◌++◌, map, length, take, drop, slice_get, nat_eq, nat_lt, refl, sym, ◌∙◌, ap, arith, Option, Some, None}
+use Rattle.std.proofs.Common.{◌≡◌, ℕ, suc, ◌+◌, ◌-◌, ◌≤◌, ◌<◌, Bool, true, false, ◌||◌, List, [], ◌∷◌, ◌++◌, map}
+use Rattle.std.proofs.Common.{length, take, drop, slice_get, nat_eq, nat_lt, refl, sym, ◌∙◌, ap, arith, Option, Some}
+use Rattle.std.proofs.Common.{None}
 use Rattle.std.specs.Prelude.{if◌then◌else◌}
 use Rattle.std.specs.Borrow.{Bor}
 use Rattle.std.specs.List.{find, list_any, position_from, position_or_len}
@@ -110,7 +112,8 @@ number_is rules n own = by (position_from (λ rule. same_name rule.name n) 0 rul
 pub index_number :
     (n : List ℕ) (keys : List (Bor (List ℕ))) (rules : RulesV) → map (λ k. k.now) keys ≡ rule_names rules
     → list_any is_built_in (rule_names rules) ≡ false
-    → (if nat_lt (position_or_len (λ k. pointwise nat_eq n k.now) keys) (length keys) then Some (position_or_len (λ k. pointwise nat_eq n k.now) keys) else None)
+    → (if nat_lt (position_or_len (λ k. pointwise nat_eq n k.now) keys) (length keys) then Some
+    (position_or_len (λ k. pointwise nat_eq n k.now) keys) else None)
     ≡ number_in rules n
 index_number n keys rules named own =
     position_from-zero (λ (k : Bor (List ℕ)). pointwise nat_eq n k.now) keys ∙ (key_number n 0 keys rules named ∙ number_is rules n own)
@@ -219,5 +222,7 @@ pub twice-new :
 twice-new rules at rule h unlike =
     let next : take (at + 1) rules ≡ take at rules ++ rule ∷ [] = take_next rules at rule h in
     ap (λ l. way 0 (twice_steps (taken_after built_in_names (take at rules)) l)) (drop_at rules at rule h)
-    ∙ (ap (λ b. way 0 (refused_if b DefinedTwice rule.span.start ++ twice_steps (rule.name ∷ taken_after built_in_names (take at rules)) (drop (at + 1) rules))) unlike
-    ∙ ap (λ l. way 0 (twice_steps l (drop (at + 1) rules))) (sym (taken-next built_in_names (take at rules) rule) ∙ ap (taken_after built_in_names) (sym next)))
+    ∙ (ap (λ b. way 0 (refused_if b DefinedTwice rule.span.start ++ twice_steps
+    (rule.name ∷ taken_after built_in_names (take at rules)) (drop (at + 1) rules))) unlike
+    ∙ ap (λ l. way 0 (twice_steps l (drop (at + 1) rules))) (sym (taken-next built_in_names (take at rules) rule)
+    ∙ ap (taken_after built_in_names) (sym next)))

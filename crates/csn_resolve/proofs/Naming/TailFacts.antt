@@ -87,27 +87,35 @@ end-none n s e a b (x ∷ y ∷ z ∷ bs) other = end-many n s e a b x.error y.e
 pub end-is :
     (n : List ℕ) (s e a b : ℕ) (bs : List BranchV) (x y : BranchV) → length bs ≡ 2 → slice_get bs 0 ≡ Some x → slice_get bs 1 ≡ Some y
     → end_of n (expr s e (group (expr a b (choice (branches_of bs)))))
-    ≡ (if x.error then None else (if y.error then None else option_or (end_with s (again_of n y.body) (word_of x.body)) (end_with s (again_of n x.body) (word_of y.body))))
+    ≡ (if x.error then None else
+    (if y.error then None else option_or (end_with s (again_of n y.body) (word_of x.body))
+    (end_with s (again_of n x.body) (word_of y.body))))
 end-is n s e a b bs x y long at_0 at_1 =
     let both = two bs y long at_1 in
     let same : both.0 ≡ x = cc in
     ap (λ l. end_of n (expr s e (group (expr a b (choice (branches_of l)))))) both.2
     ∙ (end-two n s e a b both.0.error y.error both.0.body y.body
-    ∙ ap (λ (z : BranchV). if z.error then None else (if y.error then None else option_or (end_with s (again_of n y.body) (word_of z.body)) (end_with s (again_of n z.body) (word_of y.body)))) same)
+    ∙ ap (λ (z : BranchV). if z.error then None else
+    (if y.error then None else option_or (end_with s (again_of n y.body) (word_of z.body))
+    (end_with s (again_of n z.body) (word_of y.body)))) same)
 
 pub end-left-error :
     (n : List ℕ) (s e a b : ℕ) (bs : List BranchV) (x y : BranchV) → length bs ≡ 2 → slice_get bs 0 ≡ Some x → slice_get bs 1 ≡ Some y
     → x.error ≡ true → end_of n (expr s e (group (expr a b (choice (branches_of bs))))) ≡ None
 end-left-error n s e a b bs x y long at_0 at_1 error =
     end-is n s e a b bs x y long at_0 at_1
-    ∙ ap (λ z. if z then None else (if y.error then None else option_or (end_with s (again_of n y.body) (word_of x.body)) (end_with s (again_of n x.body) (word_of y.body)))) error
+    ∙ ap (λ z. if z then None else
+    (if y.error then None else option_or (end_with s (again_of n y.body) (word_of x.body))
+    (end_with s (again_of n x.body) (word_of y.body)))) error
 
 pub end-right-error :
     (n : List ℕ) (s e a b : ℕ) (bs : List BranchV) (x y : BranchV) → length bs ≡ 2 → slice_get bs 0 ≡ Some x → slice_get bs 1 ≡ Some y
     → x.error ≡ false → y.error ≡ true → end_of n (expr s e (group (expr a b (choice (branches_of bs))))) ≡ None
 end-right-error n s e a b bs x y long at_0 at_1 plain error =
     end-is n s e a b bs x y long at_0 at_1
-    ∙ (ap (λ z. if z then None else (if y.error then None else option_or (end_with s (again_of n y.body) (word_of x.body)) (end_with s (again_of n x.body) (word_of y.body)))) plain
+    ∙ (ap (λ z. if z then None else
+    (if y.error then None else option_or (end_with s (again_of n y.body) (word_of x.body))
+    (end_with s (again_of n x.body) (word_of y.body)))) plain
     ∙ ap (λ z. if z then None else option_or (end_with s (again_of n y.body) (word_of x.body)) (end_with s (again_of n x.body) (word_of y.body))) error)
 
 pub end-sides :
@@ -116,7 +124,9 @@ pub end-sides :
     ≡ option_or (end_with s (again_of n y.body) (word_of x.body)) (end_with s (again_of n x.body) (word_of y.body))
 end-sides n s e a b bs x y long at_0 at_1 plain other =
     end-is n s e a b bs x y long at_0 at_1
-    ∙ (ap (λ z. if z then None else (if y.error then None else option_or (end_with s (again_of n y.body) (word_of x.body)) (end_with s (again_of n x.body) (word_of y.body)))) plain
+    ∙ (ap (λ z. if z then None else
+    (if y.error then None else option_or (end_with s (again_of n y.body) (word_of x.body))
+    (end_with s (again_of n x.body) (word_of y.body)))) plain
     ∙ ap (λ z. if z then None else option_or (end_with s (again_of n y.body) (word_of x.body)) (end_with s (again_of n x.body) (word_of y.body))) other)
 
 -- ---- the last item, and those before it

@@ -1,5 +1,6 @@
 -- Facts about what contracts see of the values that a walk passes on.
-use Rattle.std.proofs.Common.{◌≡◌, ℕ, zero, suc, ◌+◌, ◌<◌, Bool, true, false, ◌||◌, List, [], ◌∷◌, ◌++◌, take, slice_get, Some, None, refl, sym, ◌∙◌, ap, rules, length, min, arith}
+use Rattle.std.proofs.Common.{◌≡◌, ℕ, zero, suc, ◌+◌, ◌<◌, Bool, true, false, ◌||◌, List, [], ◌∷◌, ◌++◌, take}
+use Rattle.std.proofs.Common.{slice_get, Some, None, refl, sym, ◌∙◌, ap, rules, length, min, arith}
 use Rattle.std.specs.Prelude.{if◌then◌else◌}
 use Rattle.std.specs.Borrow.{Bor}
 use Rattle.csn_desc.specs.declared.reading.Reading.{Reading}

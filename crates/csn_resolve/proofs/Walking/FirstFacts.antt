@@ -84,10 +84,12 @@ defined-twice rules r n (Refused why place) h = by (rule_of rules n) refl
   where
     by : (o : Option Rule) → rule_of rules n ≡ o → IsFirst rules n r (Refused why place)
     by None is =
-        let first = first-refused 0 (twice_steps built_in_names rules ++ refused Undefined 0 ∷ []) why place (stops-first 0 (twice_steps built_in_names rules) (refused Undefined 0 ∷ []) (Refused why place) h) in
+        let first = first-refused 0 (twice_steps built_in_names rules ++ refused Undefined 0 ∷ []) why place
+        (stops-first 0 (twice_steps built_in_names rules) (refused Undefined 0 ∷ []) (Refused why place) h) in
         (first.0, record { steps = twice_steps built_in_names rules ++ refused Undefined 0 ∷ []; walked = asked_unknown is refl; are = sym first.1 })
     by (Some rule) is =
         let walk = rule_has_walk rules r (outermost n) rule in
         let left = part_left rules r rule.body in
-        let first = first-refused 0 (twice_steps built_in_names rules ++ (walk.0 ++ left.0)) why place (stops-first 0 (twice_steps built_in_names rules) (walk.0 ++ left.0) (Refused why place) h) in
+        let first = first-refused 0 (twice_steps built_in_names rules ++ (walk.0 ++ left.0)) why place
+        (stops-first 0 (twice_steps built_in_names rules) (walk.0 ++ left.0) (Refused why place) h) in
         (first.0, record { steps = twice_steps built_in_names rules ++ (walk.0 ++ left.0); walked = asked_rule rule is walk.1 left.1 refl; are = sym first.1 })

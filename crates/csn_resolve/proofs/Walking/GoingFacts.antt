@@ -61,7 +61,8 @@ pub stops-in :
     → steps ≡ first ++ rest → Stops (way begun first) fault → Stops (way begun steps) fault
 stops-in begun first rest steps fault is h = stops-same fault (ap (way begun) is) (stops-first begun first rest fault h)
 
-pub goes-same : (begun : ℕ) (steps others : List Step) (answer : Result Begun ResolveFault) → steps ≡ others → Goes begun others answer → Goes begun steps answer
+pub goes-same : (begun : ℕ) (steps others : List Step) (answer : Result Begun ResolveFault)
+    → steps ≡ others → Goes begun others answer → Goes begun steps answer
 goes-same begun steps others answer p h = let Q : List Step → Type 0 = λ z. Goes begun z answer in subst Q (sym p) h
 
 pub goes-after :
@@ -127,8 +128,11 @@ first-refused begun (begins at ∷ steps) why place p = by (begun == 16384) p (�
   where
     by :
         (full : Bool) → (if full then stopped TooManyNodes at else way (suc begun) steps) ≡ stopped why place
-        → (way (suc begun) steps ≡ stopped why place → (others : List Refusal) × (refusals_after (suc begun) steps ≡ record { why = why; place = place } ∷ others))
-        → (others : List Refusal) × ((if full then record { why = TooManyNodes; place = at } ∷ [] else []) ++ refusals_after (suc begun) steps ≡ record { why = why; place = place } ∷ others)
+        → (way (suc begun) steps ≡ stopped why place → (others : List Refusal)
+        × (refusals_after (suc begun) steps ≡ record { why = why; place = place } ∷ others))
+        → (others : List Refusal)
+        × ((if full then record { why = TooManyNodes; place = at } ∷ [] else []) ++ refusals_after (suc begun)
+        steps ≡ record { why = why; place = place } ∷ others)
     by true q later =
         let same : TooManyNodes ≡ why = cc in let here : at ≡ place = cc in (refusals_after (suc begun) steps, cc)
     by false q later = later q

@@ -6,7 +6,8 @@ use Rattle.csn_desc.specs.declared.symbol.Symbol.{Symbol}
 use Rattle.csn_grammar.specs.declared.exponent.Exponent.{Exponent}
 use Rattle.csn_grammar.specs.declared.exponent.Exponent.TheVariants.{Any, Number, Linear}
 use Rattle.csn_grammar.specs.declared.rules.Rule.{Rule}
-use Rattle.csn_grammar.specs.ExprV.{ExprV, expr, lits, null, bit, octet, name, labelled, group, seq, choice, power, cut, both, sends, ExprsV, no_item, item, BranchesV, no_branch, branch}
+use Rattle.csn_grammar.specs.ExprV.{ExprV, expr, lits, null, bit, octet, name, labelled, group, seq, choice, power}
+use Rattle.csn_grammar.specs.ExprV.{cut, both, sends, ExprsV, no_item, item, BranchesV, no_branch, branch}
 use Rattle.csn_grammar.specs.RulesV.{RulesV}
 use Rattle.csn_grammar.specs.Names.{is_built_in, rule_of}
 use Rattle.csn_grammar.specs.Forms.{WidthV, width_of}
@@ -19,7 +20,13 @@ use Rattle.csn_resolve.specs.Seen.{Frame, Seen, with_labelled, inner_of}
 use Rattle.csn_resolve.specs.Gives.{start_of}
 use Rattle.csn_resolve.specs.Steps.{Step, refused}
 use Rattle.csn_resolve.specs.Counts.{CountSteps}
-use Rattle.csn_resolve.specs.Walk.{Around, inside, putting_in, behind, in_turn, is_among, entering, node_at, turn_begun, PartLeft, ItemLeft, BranchLeft, TurnLeft, Walk, ItemsWalk, BranchesWalk, RuleWalk, walk_lits, walk_null, walk_bit, walk_octet, walk_field, walk_rest, walk_built_in, walk_undefined, walk_recursive, walk_name, walk_group, walk_labelled, walk_seq, walk_choice, walk_times, walk_many, walk_cut, walk_window, walk_window_behind, walk_no_window, walk_sends, items_end, items_next, branches_end, branches_next, rule_plain, rule_tail}
+use Rattle.csn_resolve.specs.Walk.{Around, inside, putting_in, behind, in_turn, is_among, entering, node_at}
+use Rattle.csn_resolve.specs.Walk.{turn_begun, PartLeft, ItemLeft, BranchLeft, TurnLeft, Walk, ItemsWalk}
+use Rattle.csn_resolve.specs.Walk.{BranchesWalk, RuleWalk, walk_lits, walk_null, walk_bit, walk_octet, walk_field}
+use Rattle.csn_resolve.specs.Walk.{walk_rest, walk_built_in, walk_undefined, walk_recursive, walk_name, walk_group}
+use Rattle.csn_resolve.specs.Walk.{walk_labelled, walk_seq, walk_choice, walk_times, walk_many, walk_cut, walk_window}
+use Rattle.csn_resolve.specs.Walk.{walk_window_behind, walk_no_window, walk_sends, items_end, items_next}
+use Rattle.csn_resolve.specs.Walk.{branches_end, branches_next, rule_plain, rule_tail}
 use Rattle.csn_resolve.specs.Going.{gone, way, Stops, NumberGoes, LeafGoes}
 use Rattle.csn_resolve.proofs.Walking.GoingFacts.{stops-later, stops-same, stops-second, way-on, way-third}
 use Rattle.csn_resolve.proofs.Giving.Once.{same_tail}
@@ -50,19 +57,24 @@ module _ (rules : RulesV) (r : Reading) where
   pub octet-steps : {a : Around} {s e : ℕ} {steps : List Step} → Walk rules r a (expr s e octet) steps → steps ≡ node_at a s
   octet-steps (walk_octet p) = p
 
-  pub labelled-steps : {a : Around} {s e : ℕ} {label : List ℕ} {x : ExprV} {steps : List Step} → Walk rules r a (expr s e (labelled label x)) steps → GoesIn (node_at a s) (Walk rules r (inside a) x) steps
+  pub labelled-steps : {a : Around} {s e : ℕ} {label : List ℕ} {x : ExprV} {steps : List Step}
+      → Walk rules r a (expr s e (labelled label x)) steps → GoesIn (node_at a s) (Walk rules r (inside a) x) steps
   labelled-steps (walk_labelled h p) = (_, h, p)
 
-  pub group-steps : {a : Around} {s e : ℕ} {x : ExprV} {steps : List Step} → Walk rules r a (expr s e (group x)) steps → GoesIn (entering a s) (Walk rules r (inside a) x) steps
+  pub group-steps : {a : Around} {s e : ℕ} {x : ExprV} {steps : List Step} → Walk rules r a (expr s e (group x)) steps
+      → GoesIn (entering a s) (Walk rules r (inside a) x) steps
   group-steps (walk_group h p) = (_, h, p)
 
-  pub seq-steps : {a : Around} {s e : ℕ} {xs : ExprsV} {steps : List Step} → Walk rules r a (expr s e (seq xs)) steps → GoesIn (node_at a s) (ItemsWalk rules r false (inside a) [] xs) steps
+  pub seq-steps : {a : Around} {s e : ℕ} {xs : ExprsV} {steps : List Step} → Walk rules r a (expr s e (seq xs)) steps
+      → GoesIn (node_at a s) (ItemsWalk rules r false (inside a) [] xs) steps
   seq-steps (walk_seq h p) = (_, h, p)
 
-  pub choice-steps : {a : Around} {s e : ℕ} {bs : BranchesV} {steps : List Step} → Walk rules r a (expr s e (choice bs)) steps → GoesIn (node_at a s) (BranchesWalk rules r (inside a) bs) steps
+  pub choice-steps : {a : Around} {s e : ℕ} {bs : BranchesV} {steps : List Step}
+      → Walk rules r a (expr s e (choice bs)) steps → GoesIn (node_at a s) (BranchesWalk rules r (inside a) bs) steps
   choice-steps (walk_choice h p) = (_, h, p)
 
-  pub cut-steps : {a : Around} {s e : ℕ} {xs : ExprsV} {steps : List Step} → Walk rules r a (expr s e (cut xs)) steps → GoesIn (node_at a s) (ItemsWalk rules r true (inside a) [] xs) steps
+  pub cut-steps : {a : Around} {s e : ℕ} {xs : ExprsV} {steps : List Step} → Walk rules r a (expr s e (cut xs)) steps
+      → GoesIn (node_at a s) (ItemsWalk rules r true (inside a) [] xs) steps
   cut-steps (walk_cut h p) = (_, h, p)
 
   pub sends-steps :

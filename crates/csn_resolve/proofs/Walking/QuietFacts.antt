@@ -1,5 +1,6 @@
 -- Where an expression is walked without a refusal, so are its parts, and its counts are not too large.
-use Rattle.std.proofs.Common.{◌≡◌, ℕ, zero, suc, ◌+◌, ◌≤◌, ◌<◌, Bool, true, false, ◌==◌, List, [], ◌∷◌, ◌++◌, refl, ap, subst, arith, lt_of_not-le, Some, None, slice_get}
+use Rattle.std.proofs.Common.{◌≡◌, ℕ, zero, suc, ◌+◌, ◌≤◌, ◌<◌, Bool, true, false, ◌==◌, List, [], ◌∷◌, ◌++◌, refl}
+use Rattle.std.proofs.Common.{ap, subst, arith, lt_of_not-le, Some, None, slice_get}
 use Rattle.csn_desc.specs.declared.reading.Reading.{Reading}
 use Rattle.csn_desc.specs.declared.node.Count.{Count}
 use Rattle.csn_grammar.specs.declared.exponent.Exponent.{Exponent}
@@ -16,10 +17,14 @@ use Rattle.csn_resolve.specs.Seen.{Frame, Seen}
 use Rattle.csn_resolve.specs.Gives.{start_of, count_at}
 use Rattle.csn_resolve.specs.Steps.{Step, begins, refused, refused_if, Quiet}
 use Rattle.csn_resolve.specs.Counts.{is_zero, is_too_large, size_steps, CountSteps, count_number, count_unknown, count_wide, count_narrow}
-use Rattle.csn_resolve.specs.Walk.{Around, inside, putting_in, behind, entering, node_at, turn_begun, Walk, ItemsWalk, BranchesWalk, RuleWalk, walk_field, walk_rest, walk_built_in, walk_undefined, walk_recursive, walk_name, walk_times, walk_many}
+use Rattle.csn_resolve.specs.Walk.{Around, inside, putting_in, behind, entering, node_at, turn_begun, Walk, ItemsWalk}
+use Rattle.csn_resolve.specs.Walk.{BranchesWalk, RuleWalk, walk_field, walk_rest, walk_built_in, walk_undefined}
+use Rattle.csn_resolve.specs.Walk.{walk_recursive, walk_name, walk_times, walk_many}
 use Rattle.csn_resolve.specs.Made.{QuietAt, AllQuiet, BranchesQuiet, RuleQuiet}
 use Rattle.csn_resolve.proofs.Walking.Quiet.{first_of, rest_of, quiet_along}
-use Rattle.csn_resolve.proofs.Walking.Inversion.{labelled-steps, group-steps, seq-steps, choice-steps, cut-steps, sends-steps, window-steps, window-behind-steps, items-next-steps, branches-next-steps, plain-steps, tail-steps}
+use Rattle.csn_resolve.proofs.Walking.Inversion.{labelled-steps, group-steps, seq-steps, choice-steps, cut-steps}
+use Rattle.csn_resolve.proofs.Walking.Inversion.{sends-steps, window-steps, window-behind-steps, items-next-steps}
+use Rattle.csn_resolve.proofs.Walking.Inversion.{branches-next-steps, plain-steps, tail-steps}
 use Rattle.csn_resolve.proofs.Basics.Bools.{no_both}
 use Rattle.csn_resolve.proofs.Basics.Options.{no_none}
 use Rattle.csn_resolve.proofs.Basics.Windows.{Sides, left_wide, right_wide}
@@ -114,7 +119,15 @@ module _ (rules : RulesV) (r : Reading) where
   items-quiet (x ∷ xs) {a = a} {frame = frame} below few h q =
       let parts = items-next-steps rules r h in
       let after = rest_of parts.0 (parts.1 ++ parts.2) parts.6 q in (
-        record { around = behind frame a; steps = parts.0; walk = parts.3; quiet = first_of parts.0 (parts.1 ++ parts.2) parts.6 q; below = below; shallow = few },
+        record {
+          around = behind frame a;
+          steps = parts.0;
+          walk = parts.3;
+          quiet =
+              first_of parts.0 (parts.1 ++ parts.2) parts.6 q;
+          below = below;
+          shallow = few;
+        },
         items-quiet xs below few parts.5 (rest_of parts.1 parts.2 refl after),
       )
 

@@ -6,7 +6,8 @@ use Rattle.csn_desc.specs.declared.reading.Reading.TheVariants.{Sent}
 use Rattle.csn_grammar.specs.declared.exponent.Exponent.{Exponent}
 use Rattle.csn_grammar.specs.declared.exponent.Exponent.TheVariants.{Any, Number, Linear}
 use Rattle.csn_grammar.specs.declared.rules.Rule.{Rule}
-use Rattle.csn_grammar.specs.ExprV.{ExprV, expr, FormV, lits, null, bit, octet, name, labelled, group, seq, choice, power, cut, both, sends, ExprsV, no_item, item, BranchesV, no_branch, branch}
+use Rattle.csn_grammar.specs.ExprV.{ExprV, expr, FormV, lits, null, bit, octet, name, labelled, group, seq, choice}
+use Rattle.csn_grammar.specs.ExprV.{power, cut, both, sends, ExprsV, no_item, item, BranchesV, no_branch, branch}
 use Rattle.csn_grammar.specs.RulesV.{RulesV}
 use Rattle.csn_grammar.specs.Names.{is_built_in, rule_of}
 use Rattle.csn_grammar.specs.Forms.{unit_of, is_bit, WidthV, width_of}
@@ -18,7 +19,14 @@ use Rattle.csn_resolve.specs.Why.{Refusal}
 use Rattle.csn_resolve.specs.Gives.{start_of}
 use Rattle.csn_resolve.specs.Steps.{Step}
 use Rattle.csn_resolve.specs.Counts.{Narrow, CountSteps, count_number, count_unknown, count_wide, count_narrow}
-use Rattle.csn_resolve.specs.Walk.{Around, inside, in_turn, putting_in, outermost, behind, is_among, PartLeft, ItemLeft, BranchLeft, TurnLeft, is_refused, is_accepted, left_plain, left_error, left_sendable, Walk, ItemsWalk, BranchesWalk, RuleWalk, walk_lits, walk_null, walk_bit, walk_octet, walk_field, walk_rest, walk_built_in, walk_undefined, walk_recursive, walk_name, walk_group, walk_labelled, walk_seq, walk_choice, walk_times, walk_many, walk_cut, walk_window, walk_window_behind, walk_no_window, walk_sends, items_end, items_next, branches_end, branches_next, rule_plain, rule_tail}
+use Rattle.csn_resolve.specs.Walk.{Around, inside, in_turn, putting_in, outermost, behind, is_among, PartLeft}
+use Rattle.csn_resolve.specs.Walk.{ItemLeft, BranchLeft, TurnLeft, is_refused, is_accepted, left_plain, left_error}
+use Rattle.csn_resolve.specs.Walk.{left_sendable, Walk, ItemsWalk, BranchesWalk, RuleWalk, walk_lits, walk_null}
+use Rattle.csn_resolve.specs.Walk.{walk_bit, walk_octet, walk_field, walk_rest, walk_built_in, walk_undefined}
+use Rattle.csn_resolve.specs.Walk.{walk_recursive, walk_name, walk_group, walk_labelled, walk_seq, walk_choice}
+use Rattle.csn_resolve.specs.Walk.{walk_times, walk_many, walk_cut, walk_window, walk_window_behind, walk_no_window}
+use Rattle.csn_resolve.specs.Walk.{walk_sends, items_end, items_next, branches_end, branches_next, rule_plain}
+use Rattle.csn_resolve.specs.Walk.{rule_tail}
 use Rattle.csn_resolve.specs.Resolved.{asked_unknown, asked_rule, AreRefusals}
 use Rattle.csn_resolve.proofs.Emptiness.VoidDecided.{void_decided, some_void_decided}
 use Rattle.csn_resolve.proofs.Emptiness.NarrowDecided.{narrow_decided}
@@ -134,70 +142,72 @@ module _ (rules : RulesV) (r : Reading) where
 
   -- ---- where names are put in, and the rules of other names have walks
 
-  module _ (names : List (List ℕ)) (enter : (a : Around) (n : List ℕ) (rule : Rule) → a.names ≡ names → rule_of rules n ≡ Some rule → is_among n names ≡ false → RuleWalked (putting_in n a) rule) where
-    by_rule :
-        (a : Around) (s e : ℕ) (n : List ℕ) (o : Option Rule) (among : Bool) → a.names ≡ names
-        → is_built_in n ≡ false → rule_of rules n ≡ o → is_among n names ≡ among → Walked a (expr s e (name n))
-    by_rule a s e n None among same not_built at is = (_, walk_undefined not_built at refl)
-    by_rule a s e n (Some rule) true same not_built at is = (_, walk_recursive rule at (ap (is_among n) same ∙ is) refl)
-    by_rule a s e n (Some rule) false same not_built at is =
-        let inner = enter a n rule same at is in (_, walk_name rule at (ap (is_among n) same ∙ is) inner.1 refl)
+  module _ (names : List (List ℕ)) (enter : (a : Around) (n : List ℕ) (rule : Rule)
+      → a.names ≡ names → rule_of rules n ≡ Some rule → is_among n names ≡ false → RuleWalked (putting_in n a) rule)
+    where
+      by_rule :
+          (a : Around) (s e : ℕ) (n : List ℕ) (o : Option Rule) (among : Bool) → a.names ≡ names
+          → is_built_in n ≡ false → rule_of rules n ≡ o → is_among n names ≡ among → Walked a (expr s e (name n))
+      by_rule a s e n None among same not_built at is = (_, walk_undefined not_built at refl)
+      by_rule a s e n (Some rule) true same not_built at is = (_, walk_recursive rule at (ap (is_among n) same ∙ is) refl)
+      by_rule a s e n (Some rule) false same not_built at is =
+          let inner = enter a n rule same at is in (_, walk_name rule at (ap (is_among n) same ∙ is) inner.1 refl)
 
-    by_name :
-        (a : Around) (s e : ℕ) (n : List ℕ) (built : Bool)
-        → a.names ≡ names → is_built_in n ≡ built → Walked a (expr s e (name n))
-    by_name a s e n true same is = (_, walk_built_in is refl)
-    by_name a s e n false same is = by_rule a s e n (rule_of rules n) (is_among n names) same is refl refl
+      by_name :
+          (a : Around) (s e : ℕ) (n : List ℕ) (built : Bool)
+          → a.names ≡ names → is_built_in n ≡ built → Walked a (expr s e (name n))
+      by_name a s e n true same is = (_, walk_built_in is refl)
+      by_name a s e n false same is = by_rule a s e n (rule_of rules n) (is_among n names) same is refl refl
 
-    mutual
-      walked : (x : ExprV) (a : Around) → a.names ≡ names → Walked a x
-      walked (expr s e f) a same = form_walked s e f a same
+      mutual
+        walked : (x : ExprV) (a : Around) → a.names ≡ names → Walked a x
+        walked (expr s e f) a same = form_walked s e f a same
 
-      form_walked : (s e : ℕ) (f : FormV) (a : Around) → a.names ≡ names → Walked a (expr s e f)
-      form_walked s e (lits run) a same = (_, walk_lits refl)
-      form_walked s e null a same = (_, walk_null refl)
-      form_walked s e bit a same = (_, walk_bit refl)
-      form_walked s e octet a same = (_, walk_octet refl)
-      form_walked s e (name n) a same = by_name a s e n (is_built_in n) same refl
-      form_walked s e (labelled label x) a same = let inner = walked x (inside a) same in (_, walk_labelled inner.1 refl)
-      form_walked s e (group x) a same = let inner = walked x (inside a) same in (_, walk_group inner.1 refl)
-      form_walked s e (seq xs) a same = let inner = items_walked false xs [] (inside a) same in (_, walk_seq inner.1 refl)
-      form_walked s e (choice bs) a same = let inner = branches_walked bs (inside a) same in (_, walk_choice inner.1 refl)
-      form_walked s e (power x k) a same = by_power a s e x k (walked x (inside a) same)
-      form_walked s e (cut xs) a same = let inner = items_walked true xs [] (inside a) same in (_, walk_cut inner.1 refl)
-      form_walked s e (both x y) a same =
-          by_sides a s e x y (width_of x) (width_of y) refl refl (walked x (inside a) same) (walked y (inside a) same)
-      form_walked s e (sends x y) a same =
-          let left = walked x a same in let right = walked y a same in (_, walk_sends left.1 right.1 refl)
+        form_walked : (s e : ℕ) (f : FormV) (a : Around) → a.names ≡ names → Walked a (expr s e f)
+        form_walked s e (lits run) a same = (_, walk_lits refl)
+        form_walked s e null a same = (_, walk_null refl)
+        form_walked s e bit a same = (_, walk_bit refl)
+        form_walked s e octet a same = (_, walk_octet refl)
+        form_walked s e (name n) a same = by_name a s e n (is_built_in n) same refl
+        form_walked s e (labelled label x) a same = let inner = walked x (inside a) same in (_, walk_labelled inner.1 refl)
+        form_walked s e (group x) a same = let inner = walked x (inside a) same in (_, walk_group inner.1 refl)
+        form_walked s e (seq xs) a same = let inner = items_walked false xs [] (inside a) same in (_, walk_seq inner.1 refl)
+        form_walked s e (choice bs) a same = let inner = branches_walked bs (inside a) same in (_, walk_choice inner.1 refl)
+        form_walked s e (power x k) a same = by_power a s e x k (walked x (inside a) same)
+        form_walked s e (cut xs) a same = let inner = items_walked true xs [] (inside a) same in (_, walk_cut inner.1 refl)
+        form_walked s e (both x y) a same =
+            by_sides a s e x y (width_of x) (width_of y) refl refl (walked x (inside a) same) (walked y (inside a) same)
+        form_walked s e (sends x y) a same =
+            let left = walked x a same in let right = walked y a same in (_, walk_sends left.1 right.1 refl)
 
-      items_walked :
-          (full : Bool) (xs : ExprsV) (frame : Frame ExprV) (a : Around)
-          → a.names ≡ names → (steps : List Step) × ItemsWalk rules r full a frame xs steps
-      items_walked full no_item frame a same = (_, items_end refl)
-      items_walked full (item x xs) frame a same =
-          let first = walked x (behind frame a) same in let left = item_left full x in
-          let rest = items_walked full xs (with_labelled (label_of r x) (inner_of r x) frame) a same in
-          (_, items_next left.0 first.1 left.1 rest.1 refl)
+        items_walked :
+            (full : Bool) (xs : ExprsV) (frame : Frame ExprV) (a : Around)
+            → a.names ≡ names → (steps : List Step) × ItemsWalk rules r full a frame xs steps
+        items_walked full no_item frame a same = (_, items_end refl)
+        items_walked full (item x xs) frame a same =
+            let first = walked x (behind frame a) same in let left = item_left full x in
+            let rest = items_walked full xs (with_labelled (label_of r x) (inner_of r x) frame) a same in
+            (_, items_next left.0 first.1 left.1 rest.1 refl)
 
-      branches_walked :
-          (bs : BranchesV) (a : Around)
-          → a.names ≡ names → (steps : List Step) × BranchesWalk rules r a bs steps
-      branches_walked no_branch a same = (_, branches_end refl)
-      branches_walked (branch error x bs) a same =
-          let first = walked x a same in let left = branch_left error x in
-          let rest = branches_walked bs a same in
-          (_, branches_next first.1 left.1 rest.1 refl)
+        branches_walked :
+            (bs : BranchesV) (a : Around)
+            → a.names ≡ names → (steps : List Step) × BranchesWalk rules r a bs steps
+        branches_walked no_branch a same = (_, branches_end refl)
+        branches_walked (branch error x bs) a same =
+            let first = walked x a same in let left = branch_left error x in
+            let rest = branches_walked bs a same in
+            (_, branches_next first.1 left.1 rest.1 refl)
 
-    rule_walked : (rule : Rule) (a : Around) → a.names ≡ names → RuleWalked a rule
-    rule_walked rule a same = by_tail (tail_of rule) refl
-      where
-        by_tail : (o : Option TailV) → tail_of rule ≡ o → RuleWalked a rule
-        by_tail None is = let inner = walked rule.body a same in (_, rule_plain is inner.1)
-        by_tail (Some tail) is =
-            let items = items_walked false tail.items [] (inside a) same in
-            let turn = items_walked false tail.items [] (in_turn (inside a)) same in
-            let left = turn_left tail in
-            (_, rule_tail tail is items.1 turn.1 left.1 refl)
+      rule_walked : (rule : Rule) (a : Around) → a.names ≡ names → RuleWalked a rule
+      rule_walked rule a same = by_tail (tail_of rule) refl
+        where
+          by_tail : (o : Option TailV) → tail_of rule ≡ o → RuleWalked a rule
+          by_tail None is = let inner = walked rule.body a same in (_, rule_plain is inner.1)
+          by_tail (Some tail) is =
+              let items = items_walked false tail.items [] (inside a) same in
+              let turn = items_walked false tail.items [] (in_turn (inside a)) same in
+              let left = turn_left tail in
+              (_, rule_tail tail is items.1 turn.1 left.1 refl)
 
   -- ---- with each name that is put in, fewer are left
 

@@ -17,7 +17,13 @@ use Rattle.csn_desc.specs.Overfull.{IsFirstOverfull}
 use Rattle.csn_resolve.specs.Resolved.{ResolveSteps, asked_unknown, asked_rule, nodes_of, AreRefusals, IsRefused, refused_on_walk, refused_at_last, IsResolved}
 use Rattle.csn_resolve.specs.Counts.{Narrow, CountSteps, count_number, count_unknown, count_wide, count_narrow}
 use Rattle.csn_resolve.specs.Gives.{Placed, start_of}
-use Rattle.csn_resolve.specs.Walk.{Around, inside, in_turn, putting_in, outermost, PartLeft, ItemLeft, BranchLeft, TurnLeft, is_refused, is_accepted, left_plain, left_error, left_sendable, Walk, ItemsWalk, BranchesWalk, RuleWalk, walk_lits, walk_null, walk_bit, walk_octet, walk_field, walk_rest, walk_built_in, walk_undefined, walk_recursive, walk_name, walk_group, walk_labelled, walk_seq, walk_choice, walk_times, walk_many, walk_cut, walk_window, walk_window_behind, walk_no_window, walk_sends, items_end, items_next, branches_end, branches_next, rule_plain, rule_tail, Refuses}
+use Rattle.csn_resolve.specs.Walk.{Around, inside, in_turn, putting_in, outermost, PartLeft, ItemLeft, BranchLeft}
+use Rattle.csn_resolve.specs.Walk.{TurnLeft, is_refused, is_accepted, left_plain, left_error, left_sendable, Walk}
+use Rattle.csn_resolve.specs.Walk.{ItemsWalk, BranchesWalk, RuleWalk, walk_lits, walk_null, walk_bit, walk_octet}
+use Rattle.csn_resolve.specs.Walk.{walk_field, walk_rest, walk_built_in, walk_undefined, walk_recursive, walk_name}
+use Rattle.csn_resolve.specs.Walk.{walk_group, walk_labelled, walk_seq, walk_choice, walk_times, walk_many, walk_cut}
+use Rattle.csn_resolve.specs.Walk.{walk_window, walk_window_behind, walk_no_window, walk_sends, items_end, items_next}
+use Rattle.csn_resolve.specs.Walk.{branches_end, branches_next, rule_plain, rule_tail, Refuses}
 use Rattle.csn_resolve.proofs.Giving.Once.{same_tail, name_once}
 use Rattle.csn_resolve.proofs.Basics.Bools.{no_both}
 

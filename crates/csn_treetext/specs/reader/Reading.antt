@@ -49,7 +49,8 @@ Takes version text from stack (Refused place) = IsFaultPlace version text place
 
 -- a mode with a number goes on with each digit to the mode with the number that has grown by it
 abbrev pub Grows : Version → ℕ → (ℕ → Mode) → List Frame → Type 0
-Grows version most to stack = (number byte next : ℕ) → grown most (Some number) byte ≡ Some next → step version (to number) stack byte ≡ Some (state (to next) stack)
+Grows version most to stack = (number byte next : ℕ) → grown most (Some number) byte ≡ Some next
+    → step version (to number) stack byte ≡ Some (state (to next) stack)
 
 -- the digits between two places lead from a number to another one
 abbrev pub LeadsTo : ℕ → List ℕ → ℕ → ℕ → ℕ → ℕ → Type 0

@@ -12,7 +12,8 @@ returns-in_err-node-clause-refused c =
     let p = err_from_is_err_and c.from_residual.result c.from_residual.ensures.1 in
     passed c.from_residual.result p.0 c.in_err-node.field-0.0 p.1 p.2 (λ never.
     no_next_node c.args.text.now c.nodes.nodes.items c.nodes.text c.nodes.invariant c.nodes-test.ensures.no
-    (subst (λ (i : ℕ). Lacks IsNode BeginsNoPosition (node_text i) c.nodes.text) (c.len-in-nodes.ensures ∙ c.nodes.nodes.ok.0) never)) c.in_err-node.ensures.refused
+    (subst (λ (i : ℕ). Lacks IsNode BeginsNoPosition (node_text i) c.nodes.text)
+    (c.len-in-nodes.ensures ∙ c.nodes.nodes.ok.0) never)) c.in_err-node.ensures.refused
 
 pub nodes-init : goal.nodes-init
 nodes-init c = subst (λ (ns : List NodeV). NodesRead c.args.text.now ns c.args.text.now) (sym c.new-nodes.ensures.items) (no_nodes_read c.args.text.now)
@@ -23,7 +24,8 @@ nodes-preserved c =
     let room : length c.nodes.nodes.items < 16384 = omega (arith, count, c.if-len.false, c.nodes.invariant.are.few) in
     subst (λ (ns : List NodeV). NodesRead c.args.text.now ns c.read_node.new.text) (sym c.in_ok-push.ensures.items)
     (node_read c.args.text.now c.nodes.nodes.items c.nodes.text c.read_node.new.text c.in_ok-node.node c.nodes.invariant room
-    (subst (λ (i : ℕ). Stands IsNode BeginsNoPosition (node_text i) c.nodes.text c.in_ok-node.node c.read_node.new.text) (c.len-in-nodes.ensures ∙ c.nodes.nodes.ok.0) c.in_ok-node.ensures.ok))
+    (subst (λ (i : ℕ). Stands IsNode BeginsNoPosition (node_text i) c.nodes.text c.in_ok-node.node
+    c.read_node.new.text) (c.len-in-nodes.ensures ∙ c.nodes.nodes.ok.0) c.in_ok-node.ensures.ok))
 
 pub returns-then-len-clause-refused : goal.returns-then-len-clause-refused
 returns-then-len-clause-refused c =

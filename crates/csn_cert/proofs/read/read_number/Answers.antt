@@ -9,7 +9,9 @@ use Rattle.csn_cert.proofs.read.read_number.Goals as goal
 pub returns-in_err-expect-clause-refused : goal.returns-in_err-expect-clause-refused
 returns-in_err-expect-clause-refused c =
     let p = err_from_is_err_and c.from_residual.result c.from_residual.ensures.1 in
-    passed c.from_residual.result p.0 c.in_err-expect.field-0.0 p.1 p.2 (λ never number behind stands. never (digits_text c.args.count number ++ behind) stands.spelled) c.in_err-expect.ensures.refused
+    passed c.from_residual.result p.0 c.in_err-expect.field-0.0 p.1 p.2
+    (λ never number behind stands. never (digits_text c.args.count number ++ behind) stands.spelled)
+    c.in_err-expect.ensures.refused
 
 pub returns-in_err-digit-clause-refused : goal.returns-in_err-digit-clause-refused
 returns-in_err-digit-clause-refused c =

@@ -11,7 +11,9 @@ loop-left-preserved c =
     let after : suc done ≡ c.args.count - left = omega arith in (
       omega arith,
       c.in_ok-push.ensures.items
-          ∙ ap (λ l. l ++ (48 + c.args.number / 2 ^ left % 2) ∷ []) (c.loop-left.invariant.1 ∙ ap (λ k. c.args.out.now.items ++ digits_text done (c.args.number / 2 ^ k)) (sym before))
+          ∙ ap (λ l. l ++ (48 + c.args.number / 2 ^ left % 2) ∷ [])
+          (c.loop-left.invariant.1 ∙ ap (λ k. c.args.out.now.items ++ digits_text done (c.args.number / 2 ^ k))
+          (sym before))
           ∙ digits_next c.args.out.now.items c.args.number left done
           ∙ ap (λ k. c.args.out.now.items ++ digits_text k (c.args.number / 2 ^ left)) after,
     )

@@ -10,7 +10,8 @@ pub loop-position-preserved : goal.loop-position-preserved
 loop-position-preserved c =
     let before = c.push_node_line.new.out.items in
     let same = c.deref-position-items.ensures.value ∙ ap (λ n. n.positions) c.node.view_is in
-    let there = read_item c.deref-position-items.result.now c.args.node.now.positions c.loop-position.position-index c.position-item.result same c.loop-position-test.true c.position-item.is in
+    let there = read_item c.deref-position-items.result.now c.args.node.now.positions c.loop-position.position-index
+    c.position-item.result same c.loop-position-test.true c.position-item.is in
     c.in_ok-push_position.ensures ∙ ap (λ l. l ++ position_text c.position-item.result) c.loop-position.invariant
     ∙ flat_map_more position_text before (take c.loop-position.position-index c.args.node.now.positions) c.position-item.result
     ∙ ap (λ ps. before ++ flat_map position_text ps) (sym (take-next c.args.node.now.positions c.loop-position.position-index c.position-item.result there))

@@ -14,14 +14,16 @@ overflow_cast-number c = omega (arith, c.loop-number-test.true, ap length c.clai
 pub push_node-requires : goal.push_node-requires
 push_node-requires c =
     All-get IsNode c.args.c.now c.loop-number.number c.node-item.result c.requires.nodes
-    (read_item c.claims-node-items.result.now c.args.c.now c.loop-number.number c.node-item.result c.claims-node-items.ensures c.loop-number-test.true c.node-item.is)
+    (read_item c.claims-node-items.result.now c.args.c.now c.loop-number.number c.node-item.result
+    c.claims-node-items.ensures c.loop-number-test.true c.node-item.is)
 
 pub loop-number-preserved : goal.loop-number-preserved
 loop-number-preserved c =
     let before = c.args.out.now.items in
     let number = c.loop-number.number in
     let front = take number c.args.c.now in
-    let there = read_item c.claims-node-items.result.now c.args.c.now number c.node-item.result c.claims-node-items.ensures c.loop-number-test.true c.node-item.is in
+    let there = read_item c.claims-node-items.result.now c.args.c.now number c.node-item.result
+    c.claims-node-items.ensures c.loop-number-test.true c.node-item.is in
     let within = ap length c.claims-node-items.ensures in
     let count : 0 + length front ≡ number = omega (arith, length-take-le number c.args.c.now (omega (arith, within, c.loop-number-test.true))) in
     c.in_ok-push_node.ensures ∙ ap (λ l. l ++ node_text number c.node-item.result) c.loop-number.invariant

@@ -12,6 +12,8 @@ returns c =
     let p = c.args.position.now in
     let octet = c.in_ok-push_octet.ensures ∙ ap (λ (q : PositionV). before ++ (codes "at " ++ (48 + q.octet) ∷ codes " ")) c.position.view_is in
     let front = appended before _ _ _ _ octet c.in_ok-push_sets.ensures in
-    let patterns = c.in_ok-push_patterns.ensures ∙ ap (λ ks. c.push_sets.new.out.items ++ patterns_text ks) (c.deref.ensures.value ∙ ap (λ (q : PositionV). q.patterns) c.position.view_is) in
+    let patterns = c.in_ok-push_patterns.ensures ∙ ap (λ ks. c.push_sets.new.out.items ++ patterns_text ks)
+    (c.deref.ensures.value ∙ ap (λ (q : PositionV). q.patterns) c.position.view_is) in
     let line = appended before _ _ _ _ (appended before _ _ _ _ front patterns) c.in_ok-push.ensures.items in
-    line ∙ ap (λ l. before ++ l) (sets_behind (codes "at " ++ (48 + p.octet) ∷ codes " ") (digits_text 8 p.ends) (digits_text 2 p.start) (patterns_text p.patterns))
+    line ∙ ap (λ l. before ++ l) (sets_behind (codes "at " ++ (48 + p.octet) ∷ codes " ") (digits_text 8 p.ends)
+    (digits_text 2 p.start) (patterns_text p.patterns))

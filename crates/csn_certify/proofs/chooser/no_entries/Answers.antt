@@ -22,7 +22,8 @@ returns-in-Ok c =
     let power : 2 ^ width ≤ 2 ^ 12 = pow-le-pow_right {n = 2} (omega arith) short in
     let next : width + 1 ≡ suc width = omega arith in
     let twice : 2 ^ (width + 1) ≡ 2 * 2 ^ width = ap (λ n. 2 ^ n) next ∙ pow-suc 2 width ∙ omega arith in
-    let size : length c.in-Ok.entries.items ≡ (2 * 2 ^ width) % 18446744073709551616 = ap length are ∙ length-replicate ((2 * 2 ^ width) % 18446744073709551616) Refuse in
+    let size : length c.in-Ok.entries.items ≡ (2 * 2 ^ width) % 18446744073709551616 = ap length are
+    ∙ length-replicate ((2 * 2 ^ width) % 18446744073709551616) Refuse in
     record {
       size = record { short = short; count = omega (arith, size, twice, power) };
       refuse = λ held. ap (λ l. get_or l (place_of held) Refuse) are ∙ all_refuse ((2 * 2 ^ width) % 18446744073709551616) (place_of held);

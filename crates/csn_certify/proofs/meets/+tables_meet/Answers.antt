@@ -19,7 +19,9 @@ returns-in-Neither-begins t c =
     let left = c.args.left.now in
     let right = c.args.right.now in
     let word = c.args.word.now in
-    never (MeetUnder left right word) (apart_right left right word c.requires (no_touch right word c.in-Neither-begins.ensures.0 c.in-Neither-begins.ensures.1))
+    never (MeetUnder left right word)
+    (apart_right left right word c.requires
+    (no_touch right word c.in-Neither-begins.ensures.0 c.in-Neither-begins.ensures.1))
 
 pub returns-in-Key-begins : goal.returns-in-Key-begins
 returns-in-Key-begins t c =
@@ -34,15 +36,19 @@ returns-then-tables_meet t c =
     let right = c.args.right.now in
     let word = c.args.word.now in
     always (MeetUnder left right word)
-    (met_at_zero left right word c.requires c.in-Proper.ensures.0 c.in-Proper-begins.ensures.0 c.longer.result c.longer.ensures.value (c.tables_meet.ensures.0 c.if-tables_meet.true))
+    (met_at_zero left right word c.requires c.in-Proper.ensures.0 c.in-Proper-begins.ensures.0 c.longer.result
+    c.longer.ensures.value (c.tables_meet.ensures.0 c.if-tables_meet.true))
 
 pub returns-else-tables_meet : goal.returns-else-tables_meet
 returns-else-tables_meet t c =
     let left = c.args.left.now in
     let right = c.args.right.now in
     let word = c.args.word.now in
-    met_at_one left right word c.requires c.in-Proper.ensures.0 c.in-Proper-begins.ensures.0 c.tables_meet-in-Proper-begins.result c.longer.result c.longer-in-Proper-begins.result
-    c.longer.ensures.value c.longer-in-Proper-begins.ensures.value (denied c.tables_meet.result (MeetUnder left right c.longer.result) c.tables_meet.ensures c.if-tables_meet.false) c.tables_meet-in-Proper-begins.ensures
+    met_at_one left right word c.requires c.in-Proper.ensures.0 c.in-Proper-begins.ensures.0
+    c.tables_meet-in-Proper-begins.result c.longer.result c.longer-in-Proper-begins.result
+    c.longer.ensures.value c.longer-in-Proper-begins.ensures.value
+    (denied c.tables_meet.result (MeetUnder left right c.longer.result)
+    c.tables_meet.ensures c.if-tables_meet.false) c.tables_meet-in-Proper-begins.ensures
 
 pub tables_meet-requires : goal.tables_meet-requires
 tables_meet-requires t c =

@@ -15,7 +15,8 @@ loop-pattern-preserved c =
     let octet = c.args.octet in
     let first = c.pattern-item.result in
     let there : patterns_in rests ((octet + length first.marks) % 8) ≡ c.at.result.now =
-    ap (λ n. patterns_in rests ((octet + n) % 8)) (sym c.len.ensures.count) ∙ get_or_from_slice_get rests ((octet + c.len.result) % 8) c.at.result.now [] c.at.ensures in
+    ap (λ n. patterns_in rests ((octet + n) % 8)) (sym c.len.ensures.count)
+    ∙ get_or_from_slice_get rests ((octet + c.len.result) % 8) c.at.result.now [] c.at.ensures in
     c.in_ok-push_continued.ensures
     ∙ ap (λ l. c.loop-pattern.patterns.items ++ l) (ap (λ l. continued_with l first) (sym there))
     ∙ ap (λ l. l ++ continued rests octet first) c.loop-pattern.invariant
@@ -23,4 +24,5 @@ loop-pattern-preserved c =
 
 pub returns : goal.returns
 returns c =
-    c.loop-pattern.invariant ∙ ap (flat_map (continued c.args.rests.now c.args.octet)) (take_all c.loop-pattern.pattern-index c.args.first.now (omega (arith, c.loop-pattern-test.false)))
+    c.loop-pattern.invariant ∙ ap (flat_map (continued c.args.rests.now c.args.octet))
+    (take_all c.loop-pattern.pattern-index c.args.first.now (omega (arith, c.loop-pattern-test.false)))

@@ -23,12 +23,16 @@ loop-pattern-preserved c =
           ∙ ap (λ l. c.loop-pattern.patterns.items ++ l) (ap (λ l. continued_with l first) (sym there))
           ∙ ap (λ l. l ++ continued_by behind first) c.loop-pattern.invariant.0
           ∙ flat_next (continued_by behind) patterns c.loop-pattern.pattern-index first c.loop-pattern-test.true c.pattern-item.is,
-      next_few patterns c.loop-pattern.pattern-index first c.loop-pattern-test.true c.pattern-item.is (omega (arith, count, c.len-size.ensures.few)) c.loop-pattern.invariant.1,
+      next_few patterns c.loop-pattern.pattern-index first c.loop-pattern-test.true c.pattern-item.is
+          (omega (arith, count, c.len-size.ensures.few)) c.loop-pattern.invariant.1,
     )
 
 pub returns-clause-few : goal.returns-clause-few
-returns-clause-few c = subst (λ (l : List PatternV). HaveFewMarks l) (take_all c.loop-pattern.pattern-index c.args.first.now (omega (arith, c.loop-pattern-test.false))) c.loop-pattern.invariant.1
+returns-clause-few c = subst (λ (l : List PatternV). HaveFewMarks l)
+    (take_all c.loop-pattern.pattern-index c.args.first.now (omega (arith, c.loop-pattern-test.false)))
+    c.loop-pattern.invariant.1
 
 pub returns-clause-patterns : goal.returns-clause-patterns
 returns-clause-patterns c =
-    c.loop-pattern.invariant.0 ∙ ap (flat_map (continued_by c.args.behind.now)) (take_all c.loop-pattern.pattern-index c.args.first.now (omega (arith, c.loop-pattern-test.false)))
+    c.loop-pattern.invariant.0 ∙ ap (flat_map (continued_by c.args.behind.now))
+    (take_all c.loop-pattern.pattern-index c.args.first.now (omega (arith, c.loop-pattern-test.false)))

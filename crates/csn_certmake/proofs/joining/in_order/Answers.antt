@@ -13,10 +13,13 @@ returns-clause-same c = λ p.
     let is = dedup_is _ _ _ c.dedup.ensures.filtered in
     let moved = c.sort_unstable.ensures.permutation in (
       λ h. Contains-permutation _ _ p (IsPermutation-sym _ _ moved) (Contains-from_dedup _ _ p (rw is at h)),
-      λ h. rw is (Contains-dedup (on_equiv pattern_text nat_list_eq_equiv) (λ q r same. c.texts_are_of_one_pattern.ensures q r ((bytes_eq-Decides (pattern_text q) (pattern_text r)).0 same)) _ p (Contains-permutation _ _ p moved h)),
+      λ h. rw is (Contains-dedup (on_equiv pattern_text nat_list_eq_equiv)
+          (λ q r same. c.texts_are_of_one_pattern.ensures q r
+          ((bytes_eq-Decides (pattern_text q) (pattern_text r)).0 same)) _ p (Contains-permutation _ _ p moved h)),
     )
 
 pub returns-clause-rising : goal.returns-clause-rising
 returns-clause-rising c =
     let is = dedup_is _ _ _ c.dedup.ensures.filtered in
-    rw is (rises_from _ (IsStrictlySortedBy-dedup (on_total pattern_text nat_list_cmp_total) (λ q r. texts_ties (pattern_text q) (pattern_text r)) _ c.sort_unstable.ensures.sorted))
+    rw is (rises_from _ (IsStrictlySortedBy-dedup (on_total pattern_text nat_list_cmp_total)
+    (λ q r. texts_ties (pattern_text q) (pattern_text r)) _ c.sort_unstable.ensures.sorted))

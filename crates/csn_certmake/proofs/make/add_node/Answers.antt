@@ -10,7 +10,8 @@ use Rattle.csn_certmake.proofs.make.add_node.Goals as goal
 use Rattle.csn_certmake.proofs.make.add_node.Goals.{then-has+in_ok-add_position, else-has}
 
 pub add_position-requires-clause-after : goal.add_position-requires-clause-after
-add_position-requires-clause-after c = position_below c.args.look.now c.args.reach.now c.args.row.now c.args.node c.loop-octet.octet c.args.c.now c.loop-octet.c c.loop-octet.invariant
+add_position-requires-clause-after c = position_below c.args.look.now c.args.reach.now c.args.row.now c.args.node
+    c.loop-octet.octet c.args.c.now c.loop-octet.c c.loop-octet.invariant
 
 pub add_position-requires-clause-rising : goal.add_position-requires-clause-rising
 add_position-requires-clause-rising c =
@@ -45,7 +46,8 @@ loop-octet-preserved c =
           subst (λ (cert : List NodeV). NodeSo look reach row i (octet + 1) old cert) (sym w.c-is)
           (node_skips look reach row i octet old here c.loop-octet.invariant
           (λ d known reached.
-          let has : set.contains c.reached-reached.result octet ≡ true = ((c.reached-reached.ensures d known.reached) octet (omega (arith, c.loop-octet-test.true))).1 reached in
+          let has : set.contains c.reached-reached.result octet ≡ true =
+          ((c.reached-reached.ensures d known.reached) octet (omega (arith, c.loop-octet-test.true))).1 reached in
           let not : c.has.result ≡ false = w.if-has.false in
           let is : c.has.result ≡ true = c.has.ensures ∙ has in
           absurd (cc)))

@@ -7,7 +7,13 @@ use Rattle.csn_certmake.proofs.make.add_position.Goals as goal
 
 pub pattern-requires-clause-position : goal.pattern-requires-clause-position
 pattern-requires-clause-position c =
-    let p : PositionV = record { octet = c.args.octet; ends = c.args.ends; start = c.args.start; patterns = take c.loop-pattern.pattern-index c.args.patterns.now } in
+    let p : PositionV = record {
+      octet = c.args.octet;
+      ends = c.args.ends;
+      start = c.args.start;
+      patterns =
+          take c.loop-pattern.pattern-index c.args.patterns.now;
+    } in
     there_is_a_position c.args.c.now c.loop-pattern.c p c.requires.node c.loop-pattern.invariant
 
 pub pattern-requires-clause-rising : goal.pattern-requires-clause-rising
@@ -26,4 +32,10 @@ loop-pattern-preserved c =
     let p : PositionV = record { octet = c.args.octet; ends = c.args.ends; start = c.args.start; patterns = take at patterns } in
     c.in_ok-pattern.ensures.ok ∙ ap (with_pattern next) c.loop-pattern.invariant
     ∙ one_pattern_more next p c.args.c.now c.requires.node
-    ∙ ap (λ ps. with_position (record { octet = c.args.octet; ends = c.args.ends; start = c.args.start; patterns = ps }) c.args.c.now) (one_taken patterns at next (omega (arith, c.loop-pattern-test.true)) c.pattern-item.is)
+    ∙ ap (λ ps. with_position (record {
+      octet = c.args.octet;
+      ends = c.args.ends;
+      start = c.args.start;
+      patterns =
+          ps;
+    }) c.args.c.now) (one_taken patterns at next (omega (arith, c.loop-pattern-test.true)) c.pattern-item.is)

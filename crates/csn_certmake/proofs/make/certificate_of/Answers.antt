@@ -11,7 +11,8 @@ loop-node-preserved c =
     let node = c.loop-node.node in
     let adds = c.in_ok-add_node.ensures in (
       ap length adds.added ∙ length-append c.loop-node.c (adds.node ∷ []) ∙ ap (λ n. n + 1) c.loop-node.invariant.0,
-      nodes_more c.args.look.now c.args.reach.now rows node c.index-rows-node.result c.loop-node.c c.add_node.new.c c.loop-node.invariant.0 c.loop-node.invariant.1
+      nodes_more c.args.look.now c.args.reach.now rows node c.index-rows-node.result c.loop-node.c c.add_node.new.c
+          c.loop-node.invariant.0 c.loop-node.invariant.1
           (row_read rows node c.index-rows-node.result (omega (arith, c.loop-node-test.true)) c.index-rows-node.is) adds,
     )
 

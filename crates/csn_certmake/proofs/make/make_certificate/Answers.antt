@@ -28,5 +28,7 @@ returns c =
       start = if_ok r claimed (λ cert claims. claims.start);
       follow = if_ok r claimed (λ cert claims. claims.follow);
       patterns = if_ok r claimed (λ cert claims. claims.patterns);
-      good = subst (λ (e : DescV). IfOk r (Good e)) c.into_desc-desc.ensures.desc (both_ok r all c.certificate_of_desc.ensures.description (λ cert claims is. c.look_ahead_is_good.ensures d cert is c.into_desc-desc.ensures.certified claims));
+      good = subst (λ (e : DescV). IfOk r (Good e)) c.into_desc-desc.ensures.desc
+          (both_ok r all c.certificate_of_desc.ensures.description
+          (λ cert claims is. c.look_ahead_is_good.ensures d cert is c.into_desc-desc.ensures.certified claims));
     }

@@ -14,14 +14,18 @@ row_of-requires c =
 
 pub loop-i-preserved : goal.loop-i-preserved
 loop-i-preserved c =
-    let made = subst (λ (rows : List (List (List PatternV))). IsRow (node_patterns c.reading.result rows c.node.result.now) c.in_ok-row.row) c.as_slice.ensures.value c.in_ok-row.ensures in
+    let made = subst (λ (rows : List (List (List PatternV))). IsRow
+    (node_patterns c.reading.result rows c.node.result.now) c.in_ok-row.row)
+    c.as_slice.ensures.value c.in_ok-row.ensures in
     let d = c.args.desc.now in
     let items = c.loop-i.rows.items in
     let at = c.loop-i.i - 1 in
     let part = c.in_ok-rows-2.field-0 in
     let node = c.node.result.now in (
       length-set items at part ∙ c.loop-i.invariant.0,
-      rows_more d items at node c.in_ok-row.row part c.reached.result c.loop-i.invariant.0 (omega (arith, c.loop-i.auto.i, c.len-count.ensures.len, c.loop-i-test.true)) c.len-count.ensures.description c.node.ensures
+      rows_more d items at node c.in_ok-row.row part c.reached.result c.loop-i.invariant.0
+          (omega (arith, c.loop-i.auto.i, c.len-count.ensures.len, c.loop-i-test.true))
+          c.len-count.ensures.description c.node.ensures
           (subst (λ r. IsRow (node_patterns r items node) c.in_ok-row.row) c.reading.ensures made) (c.reached.ensures d c.requires) c.in_ok-rows-2.ensures
           (λ j low high. c.loop-i.invariant.1 j (omega (arith, low)) high),
     )

@@ -14,7 +14,9 @@ loop-at-init c =
 pub before-requires-clause-part : goal.before-requires-clause-part
 before-requires-clause-part c =
     let i = c.get.result in
-    let is : slice_index_or c.args.rows.now i [] ≡ c.index-rows-get.result = row_read c.args.rows.now i c.index-rows-get.result (c.requires.there (c.loop-at.at - 1) i c.get.ensures) c.index-rows-get.is in
+    let is : slice_index_or c.args.rows.now i [] ≡ c.index-rows-get.result =
+    row_read c.args.rows.now i c.index-rows-get.result (c.requires.there (c.loop-at.at - 1) i c.get.ensures)
+    c.index-rows-get.is in
     sym (ap length is) ∙ (c.requires.rows (c.loop-at.at - 1) i c.get.ensures).eight
 
 pub loop-at-preserved : goal.loop-at-preserved
@@ -24,11 +26,14 @@ loop-at-preserved c =
     let i = c.get.result in
     let new = c.in_ok-row-2.row in
     let rests = sequence_of of_part (drop c.loop-at.at parts) in
-    let is : slice_index_or c.args.rows.now i [] ≡ c.index-rows-get.result = row_read c.args.rows.now i c.index-rows-get.result (c.requires.there (c.loop-at.at - 1) i c.get.ensures) c.index-rows-get.is in
+    let is : slice_index_or c.args.rows.now i [] ≡ c.index-rows-get.result =
+    row_read c.args.rows.now i c.index-rows-get.result (c.requires.there (c.loop-at.at - 1) i c.get.ensures)
+    c.index-rows-get.is in
     let made = row_before c.index-rows-get.result c.loop-at.row new rests c.loop-at.invariant c.in_ok-row-2.ensures in
     let here = subst (λ (r : List (List PatternV)). IsRow (λ octet. flat_map (before_all rests octet) (patterns_in r octet)) new) (sym is) made in
     let next : suc (c.loop-at.at - 1) ≡ c.loop-at.at = omega (arith, c.loop-at-test.true) in
-    let split : drop (c.loop-at.at - 1) parts ≡ i ∷ drop c.loop-at.at parts = last_parts parts (c.loop-at.at - 1) i c.get.ensures ∙ ap (λ n. i ∷ drop n parts) next in
+    let split : drop (c.loop-at.at - 1) parts ≡ i ∷ drop c.loop-at.at parts = last_parts parts (c.loop-at.at - 1)
+    i c.get.ensures ∙ ap (λ n. i ∷ drop n parts) next in
     subst (λ (ps : List ℕ). IsRow (sequence_of of_part ps) new) (sym split) here
 
 pub returns : goal.returns

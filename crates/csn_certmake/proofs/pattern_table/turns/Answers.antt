@@ -5,7 +5,9 @@ use Rattle.csn_certmake.specs.Patterns.{IsRow, turns_of, patterns_in}
 use Rattle.csn_certmake.proofs.pattern_table.turns.Goals as goal
 
 pub returns-in-Fixed : goal.returns-in-Fixed
-returns-in-Fixed c = subst (λ (k : Count). IfOk c.times.result (λ row. IsRow (turns_of (patterns_in c.args.part.now) k) row)) (sym c.in-Fixed.is) c.times.ensures
+returns-in-Fixed c =
+    subst (λ (k : Count). IfOk c.times.result (λ row. IsRow (turns_of (patterns_in c.args.part.now) k) row))
+    (sym c.in-Fixed.is) c.times.ensures
 
 pub returns-in-Counted : goal.returns-in-Counted
 returns-in-Counted c =

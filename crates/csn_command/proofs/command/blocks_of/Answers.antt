@@ -1,7 +1,9 @@
 use Rattle.std.proofs.Common.{rules, ◌≡◌, ◌∙◌, IsTrue, ap, sym, arith}
 use Rattle.std.specs.Fmt.{decimal}
 use Rattle.std.proofs.lemmas.Fmt.{parse-decimal}
-use Rattle.csn_command.proofs.command.blocks_of.Goals.{else-blocks-gt0-via-then-blocks-gt0+then-blocks-le-MOST_BLOCKS+else-eq, else-blocks-gt0-via-then-blocks-gt0+else-blocks-le-MOST_BLOCKS, else-blocks-gt0-via-else-blocks-gt0}
+use Rattle.csn_command.proofs.command.blocks_of.Goals.{else-blocks-gt0-via-then-blocks-gt0+then-blocks-le-MOST_BLOCKS+else-eq}
+use Rattle.csn_command.proofs.command.blocks_of.Goals.{else-blocks-gt0-via-then-blocks-gt0+else-blocks-le-MOST_BLOCKS}
+use Rattle.csn_command.proofs.command.blocks_of.Goals.{else-blocks-gt0-via-else-blocks-gt0}
 use Rattle.csn_command.proofs.command.blocks_of.Goals as goal
 
 pub returns-in_default-clause-none : goal.returns-in_default-clause-none

@@ -9,10 +9,18 @@ pub returns-in-Some-clause-row : goal.returns-in-Some-clause-row
 returns-in-Some-clause-row g c = (λ _. entries_row (Downlink ∷ []) c.in-Some.reading (over_downlink c.in-Some.ensures.names refl), λ _. refl)
 
 pub returns-in-Some-reading_words-clause-row : goal.returns-in-Some-reading_words-clause-row
-returns-in-Some-reading_words-clause-row g c = (λ _. entries_row all_entries c.in-Some-reading_words.reading (over_all c.in-Some-reading_words.ensures.names refl), λ _. refl)
+returns-in-Some-reading_words-clause-row g c = (
+  λ _. entries_row all_entries c.in-Some-reading_words.reading
+      (over_all c.in-Some-reading_words.ensures.names refl),
+  λ _. refl,
+)
 
 pub returns-in-Some-soak_words-clause-row : goal.returns-in-Some-soak_words-clause-row
-returns-in-Some-soak_words-clause-row g c = (λ _. entries_row (c.in-Some-soak_words.entry ∷ []) Sent (over_soaked c.in-Some-soak_words.entry c.in-Some-soak_words.blocks c.in-Some-soak_words.ensures.names refl refl), λ _. refl)
+returns-in-Some-soak_words-clause-row g c = (
+  λ _. entries_row (c.in-Some-soak_words.entry ∷ []) Sent
+      (over_soaked c.in-Some-soak_words.entry c.in-Some-soak_words.blocks c.in-Some-soak_words.ensures.names refl refl),
+  λ _. refl,
+)
 
 pub returns-in-Some-pair_words-clause-row : goal.returns-in-Some-pair_words-clause-row
 returns-in-Some-pair_words-clause-row g c = (λ _. compat_row _ _ _ _ c.in-Some-pair_words.ensures.names, λ _. refl)

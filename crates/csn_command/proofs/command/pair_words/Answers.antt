@@ -28,14 +28,27 @@ returns-else-eq-clause-none g c = λ before after name reading row.
 pub returns-in_err-first : goal.returns-in_err-first
 returns-in_err-first g c = record {
   names = if_none c.from_residual.result _ c.from_residual.ensures;
-  none = λ before after name reading row. absurd (omega (arith, c.in_err-first.ensures.cases, ap length row.words_are, length-map c.args.words.now g.W.AsStr.text));
+  none = λ before after name reading row. absurd
+      (omega (
+        arith,
+        c.in_err-first.ensures.cases,
+        ap length row.words_are,
+        length-map c.args.words.now
+            g.W.AsStr.text,
+      ));
 }
 
 pub returns-in_err-before : goal.returns-in_err-before
 returns-in_err-before g c = record {
   names = if_none c.from_residual-in_err-before.result _ c.from_residual-in_err-before.ensures;
   none = λ before after name reading row.
-      absurd (omega (arith, c.in_err-before.ensures.cases, c.in_ok-first.ensures.cases.1, ap length row.words_are, length-map c.args.words.now g.W.AsStr.text));
+      absurd (omega (
+        arith,
+        c.in_err-before.ensures.cases,
+        c.in_ok-first.ensures.cases.1,
+        ap length row.words_are,
+        length-map c.args.words.now g.W.AsStr.text,
+      ));
 }
 
 pub returns-in_err-rule : goal.returns-in_err-rule

@@ -24,7 +24,9 @@ pub returns-in_default-clause-none : goal.returns-in_default-clause-none
 returns-in_default-clause-none g c = λ reading row. absurd (omega (arith, c.in_default.len_below, ap length row, length-map c.args.words.now g.W.AsStr.text))
 
 pub returns-in_default-2-clause-none : goal.returns-in_default-2-clause-none
-returns-in_default-2-clause-none g c = λ reading row. absurd (omega (arith, c.in_default.len_at_least, ap length row, length-map c.args.words.now g.W.AsStr.text))
+returns-in_default-2-clause-none g c =
+    λ reading row. absurd
+    (omega (arith, c.in_default.len_at_least, ap length row, length-map c.args.words.now g.W.AsStr.text))
 
 pub returns-in_err-reading-clause-names : goal.returns-in_err-reading-clause-names
 returns-in_err-reading-clause-names g c = if_none c.from_residual.result _ c.from_residual.ensures

@@ -7,7 +7,8 @@ use Rattle.csn_command.proofs.command.rule_command.Goals as goal
 
 pub returns-in-Some : goal.returns-in-Some
 returns-in-Some g c =
-    let named = subst (λ (w : List ℕ). AreRuleWords w (map g.W.AsStr.text c.args.words.now) c.in_ok-rule.rule) c.in-Some.ensures.named c.in_ok-rule.ensures.names in
+    let named = subst (λ (w : List ℕ). AreRuleWords w (map g.W.AsStr.text c.args.words.now) c.in_ok-rule.rule)
+    c.in-Some.ensures.named c.in_ok-rule.ensures.names in
     record { row = λ _. rule_row _ _ _ (inl (c.in-Some.report, named)); none = λ file name reading over. refl; names = named }
 
 pub returns-in_err-first : goal.returns-in_err-first
@@ -40,5 +41,6 @@ returns-in_err-command g c = record {
 
 pub returns : goal.returns
 returns g c =
-    let named = subst (λ (w : List ℕ). AreRuleWords w (map g.W.AsStr.text c.args.words.now) c.in_ok-rule.rule) c.in_ok-command.ensures.named c.in_ok-rule.ensures.names in
+    let named = subst (λ (w : List ℕ). AreRuleWords w (map g.W.AsStr.text c.args.words.now) c.in_ok-rule.rule)
+    c.in_ok-command.ensures.named c.in_ok-rule.ensures.names in
     record { row = λ _. rule_row _ _ _ (inr (c.in_ok-command.command, named)); none = λ file name reading over. refl; names = named }

@@ -2,12 +2,16 @@ use Rattle.std.proofs.Common.{rules, sym, subst, ◌≡◌, ◌∙◌, ap, map, 
 use Rattle.csn_command.specs.Command.{IsArgument}
 use Rattle.std.proofs.lemmas.List.{length-map}
 use Rattle.csn_command.proofs.Words.{four_members, if_none}
-use Rattle.csn_command.proofs.command.rule_words.Goals.{in_default-via-then-words-lt4, in_default-via-else-words-lt4+else-words-lt5, else-eq-via-then-eq+then-is_argument+else-is_argument-2, else-eq-via-then-eq+else-is_argument, else-eq-via-else-eq}
+use Rattle.csn_command.proofs.command.rule_words.Goals.{in_default-via-then-words-lt4}
+use Rattle.csn_command.proofs.command.rule_words.Goals.{in_default-via-else-words-lt4+else-words-lt5}
+use Rattle.csn_command.proofs.command.rule_words.Goals.{else-eq-via-then-eq+then-is_argument+else-is_argument-2}
+use Rattle.csn_command.proofs.command.rule_words.Goals.{else-eq-via-then-eq+else-is_argument, else-eq-via-else-eq}
 use Rattle.csn_command.proofs.command.rule_words.Goals as goal
 
 pub returns-then-is_argument-2-clause-names : goal.returns-then-is_argument-2-clause-names
 returns-then-is_argument-2-clause-names g c =
-    let words = four_members c.args.words.now _ _ _ _ c.in-len4.len_at_least c.in-len4.len_below c.first-item.is c.file-item.is c.name-item.is c.reading-item.is in
+    let words = four_members c.args.words.now _ _ _ _ c.in-len4.len_at_least c.in-len4.len_below c.first-item.is
+    c.file-item.is c.name-item.is c.reading-item.is in
     let first : g.W.AsStr.text c.first-item.result ≡ c.args.command.now = search rules in
     record {
       words_are = ap (map g.W.AsStr.text) words ∙ cc (first, c.as_str-file.ensures, c.as_str-name.ensures, c.as_str.ensures, c.in_ok-reading.ensures.named);
@@ -17,7 +21,8 @@ returns-then-is_argument-2-clause-names g c =
 
 pub returns-else-eq-clause-none : goal.returns-else-eq-clause-none
 returns-else-eq-clause-none g c = λ file name reading row.
-    let words = four_members c.args.words.now _ _ _ _ c.in-len4.len_at_least c.in-len4.len_below c.first-item.is c.file-item.is c.name-item.is c.reading-item.is in
+    let words = four_members c.args.words.now _ _ _ _ c.in-len4.len_at_least c.in-len4.len_below c.first-item.is
+    c.file-item.is c.name-item.is c.reading-item.is in
     let all = sym (ap (map g.W.AsStr.text) words) ∙ row.words_are in
     elim c.else-eq.branch [
       | else-eq-via-then-eq+then-is_argument+else-is_argument-2 w ↦
@@ -48,6 +53,7 @@ returns-in_err-reading-clause-names g c = if_none c.from_residual.result _ c.fro
 
 pub returns-in_err-reading-clause-none : goal.returns-in_err-reading-clause-none
 returns-in_err-reading-clause-none g c = λ file name reading row.
-    let words = four_members c.args.words.now _ _ _ _ c.in-len4.len_at_least c.in-len4.len_below c.first-item.is c.file-item.is c.name-item.is c.reading-item.is in
+    let words = four_members c.args.words.now _ _ _ _ c.in-len4.len_at_least c.in-len4.len_below c.first-item.is
+    c.file-item.is c.name-item.is c.reading-item.is in
     let all = sym (ap (map g.W.AsStr.text) words) ∙ row.words_are in
     ap is_some c.from_residual.ensures ∙ c.in_err-reading.ensures.none reading (cc (all, c.as_str.ensures))

@@ -8,7 +8,15 @@ returns-then-eq-clause-names g c =
     let words = three_members c.args.words.now _ _ _ c.in-len3.len_at_least c.in-len3.len_below c.first-item.is c.entry-item.is c.blocks-item.is in
     let first : g.W.AsStr.text c.first-item.result ≡ codes "soak" = search rules in
     record {
-      words_are = ap (map g.W.AsStr.text) words ∙ cc (first, c.as_bytes.ensures.value, c.in_ok-entry.ensures.its_word, c.as_str.ensures, c.as_str-2.ensures, c.in_ok-blocks.ensures.told.0);
+      words_are = ap (map g.W.AsStr.text) words
+          ∙ cc (
+            first,
+            c.as_bytes.ensures.value,
+            c.in_ok-entry.ensures.its_word,
+            c.as_str.ensures,
+            c.as_str-2.ensures,
+            c.in_ok-blocks.ensures.told.0,
+          );
       some = c.in_ok-blocks.ensures.told.1;
       few = c.in_ok-blocks.ensures.told.2;
     }
@@ -25,10 +33,14 @@ returns-else-eq-clause-none g c = λ entry n row.
     sym c.if-eq.false ∙ yes
 
 pub returns-in_default-clause-none : goal.returns-in_default-clause-none
-returns-in_default-clause-none g c = λ entry n row. absurd (omega (arith, c.in_default.len_below, ap length row.words_are, length-map c.args.words.now g.W.AsStr.text))
+returns-in_default-clause-none g c =
+    λ entry n row. absurd
+    (omega (arith, c.in_default.len_below, ap length row.words_are, length-map c.args.words.now g.W.AsStr.text))
 
 pub returns-in_default-2-clause-none : goal.returns-in_default-2-clause-none
-returns-in_default-2-clause-none g c = λ entry n row. absurd (omega (arith, c.in_default.len_at_least, ap length row.words_are, length-map c.args.words.now g.W.AsStr.text))
+returns-in_default-2-clause-none g c =
+    λ entry n row. absurd
+    (omega (arith, c.in_default.len_at_least, ap length row.words_are, length-map c.args.words.now g.W.AsStr.text))
 
 pub returns-in_err-entry-clause-names : goal.returns-in_err-entry-clause-names
 returns-in_err-entry-clause-names g c = if_none c.from_residual.result _ c.from_residual.ensures

@@ -7,7 +7,8 @@ use Rattle.csn_command.proofs.command.verify_words.Goals as goal
 
 pub returns-then-is_argument-clause-names : goal.returns-then-is_argument-clause-names
 returns-then-is_argument-clause-names g c =
-    verify_row_of g.W.AsStr.text c.in_ok-certificate.front.now c.in_ok-certificate.certificate.now c.in_ok-certificate.ensures.cases.0 c.as_str-certificate.ensures c.in_ok-rule.ensures.names
+    verify_row_of g.W.AsStr.text c.in_ok-certificate.front.now c.in_ok-certificate.certificate.now
+    c.in_ok-certificate.ensures.cases.0 c.as_str-certificate.ensures c.in_ok-rule.ensures.names
     (c.is_argument.ensures.0 c.if-is_argument.true)
 
 pub returns-then-is_argument-clause-none : goal.returns-then-is_argument-clause-none
@@ -28,7 +29,9 @@ returns-in_err-certificate-clause-names g c = if_none c.from_residual.result _ c
 pub returns-in_err-rule-clause-none : goal.returns-in_err-rule-clause-none
 returns-in_err-rule-clause-none g c = λ file name reading certificate row.
     ap is_some c.from_residual-in_err-rule.ensures
-    ∙ c.in_err-rule.ensures.none file name reading (front_of_verify g.W.AsStr.text c.in_ok-certificate.front.now c.in_ok-certificate.certificate.now c.in_ok-certificate.ensures.cases.0 row).0
+    ∙ c.in_err-rule.ensures.none file name reading
+    (front_of_verify g.W.AsStr.text c.in_ok-certificate.front.now c.in_ok-certificate.certificate.now
+    c.in_ok-certificate.ensures.cases.0 row).0
 
 pub returns-in_err-rule-clause-names : goal.returns-in_err-rule-clause-names
 returns-in_err-rule-clause-names g c = if_none c.from_residual-in_err-rule.result _ c.from_residual-in_err-rule.ensures

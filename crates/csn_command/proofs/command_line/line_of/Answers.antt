@@ -16,7 +16,9 @@ pub returns : goal.returns
 returns c =
     let command_is : rule_of c.required.result ≡ command_rule = search rules in
     let any = some_and _ _ c.num_args.ensures.1 in
-    let arguments_is : rule_of c.num_args.result ≡ arguments_rule = ap rule_of c.num_args.ensures.0 ∙ (λ i. record (c.new-3.ensures.rule i) { range = any i }) in
-    let named : app_of c.no_binary_name.result ≡ on_top without_name (new_app (codes "csn_cli")) = ap app_of_fields c.no_binary_name.ensures ∙ ap (on_top without_name) c.new.ensures.app in
+    let arguments_is : rule_of c.num_args.result ≡ arguments_rule = ap rule_of c.num_args.ensures.0
+    ∙ (λ i. record (c.new-3.ensures.rule i) { range = any i }) in
+    let named : app_of c.no_binary_name.result ≡ on_top without_name (new_app (codes "csn_cli")) =
+    ap app_of_fields c.no_binary_name.ensures ∙ ap (on_top without_name) c.new.ensures.app in
     let first = c.in_ok-arg.ensures.shape (search rules) ∙ ap₂ with_rule named command_is in
     IfOk-weaker c.arg-2.result _ _ (λ r adds. adds.shape (search rules) ∙ ap₂ with_rule first arguments_is) c.arg-2.ensures

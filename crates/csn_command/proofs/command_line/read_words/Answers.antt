@@ -11,14 +11,20 @@ use Rattle.csn_command.proofs.command_line.read_words.Goals as goal
 pub returns-in_err-matches-clause-err : goal.returns-in_err-matches-clause-err
 returns-in_err-matches-clause-err c =
     let long = length-map c.args.words.now string_bytes in
-    let all = all_taken (map string_bytes c.args.words.now) c.requires.arguments (omega (arith, long, c.requires.some)) (omega (arith, long, c.in_ok-read.ensures.capacity, c.in_ok-read.read.small)) in
-    let taken : takes (app_of c.in_ok-line_of.field-0) (map string_bytes c.args.words.now) ≡ true = ap (λ (a : App). takes a (map string_bytes c.args.words.now)) c.in_ok-line_of.ensures ∙ all in
+    let all = all_taken (map string_bytes c.args.words.now) c.requires.arguments
+    (omega (arith, long, c.requires.some))
+    (omega (arith, long, c.in_ok-read.ensures.capacity, c.in_ok-read.read.small)) in
+    let taken : takes (app_of c.in_ok-line_of.field-0) (map string_bytes c.args.words.now) ≡ true =
+    ap (λ (a : App). takes a (map string_bytes c.args.words.now)) c.in_ok-line_of.ensures ∙ all in
     passed_up _ c.in_err-matches.field-0.0 _ c.from_residual-in_err-matches.ensures.1 (c.in_err-matches.ensures.passes taken)
 
 pub returns-clause-ok : goal.returns-clause-ok
 returns-clause-ok c =
     let long = length-map c.args.words.now string_bytes in
-    let found : rows_of (found_of c.in_ok-matches.matches) ≡ matches_of command_line (map string_bytes c.args.words.now) = (c.in_ok-matches.ensures.matches (ap is_simple c.in_ok-line_of.ensures)).0 ∙ ap (λ a. matches_of a (map string_bytes c.args.words.now)) c.in_ok-line_of.ensures in
+    let found : rows_of (found_of c.in_ok-matches.matches) ≡ matches_of command_line
+    (map string_bytes c.args.words.now) =
+    (c.in_ok-matches.ensures.matches (ap is_simple c.in_ok-line_of.ensures)).0
+    ∙ ap (λ a. matches_of a (map string_bytes c.args.words.now)) c.in_ok-line_of.ensures in
     let back = words_back _ c.requires.arguments (omega (arith, long, c.requires.some)) _ found in
     let first = c.get_strs.ensures ∙ raw_values-rows (found_of c.in_ok-matches.matches) (codes "command") in
     let more = c.get_strs-2.ensures ∙ raw_values-rows (found_of c.in_ok-matches.matches) (codes "arguments") in

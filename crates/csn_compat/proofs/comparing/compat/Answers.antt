@@ -18,4 +18,5 @@ prove-unreachable-requires-2 c =
 pub returns-clause-strings : goal.returns-clause-strings
 returns-clause-strings c e =
     let P : List Pair → Type 0 = λ pairs. Takes c.args.was.now c.args.now.now 0 0 pairs in
-    blocks_taken c.args.was.now c.args.now.now c.len-old.ensures.description c.len-new.ensures.description c.requires.one_reading (subst P c.new.ensures (c.takes.ensures.takes.0 e))
+    blocks_taken c.args.was.now c.args.now.now c.len-old.ensures.description c.len-new.ensures.description
+    c.requires.one_reading (subst P c.new.ensures (c.takes.ensures.takes.0 e))

@@ -11,7 +11,9 @@ unlike false is none = absurd (cc)
 
 pub loop-at-preserved : goal.loop-at-preserved
 loop-at-preserved c =
-    let equal : c.get.result.now ≡ c.get-in-loop-at.result.now = same_true the_type (search rules) c.get.result.now c.get-in-loop-at.result.now (unlike (sameb the_type c.get.result.now c.get-in-loop-at.result.now) c.ne.ensures c.if-ne.false) in
+    let equal : c.get.result.now ≡ c.get-in-loop-at.result.now = same_true the_type (search rules)
+    c.get.result.now c.get-in-loop-at.result.now
+    (unlike (sameb the_type c.get.result.now c.get-in-loop-at.result.now) c.ne.ensures c.if-ne.false) in
     let across : slice_get c.args.other.now c.loop-at.at ≡ Some c.get.result.now = c.get-in-loop-at.ensures ∙ ap (λ x. Some x) (sym equal) in
     let P : ℕ → Type 0 = λ k. take k c.args.run.now ≡ take k c.args.other.now in
     subst P (sym (add-one c.loop-at.at)) (first_equal c.args.run.now c.args.other.now c.loop-at.at c.get.result.now c.get.ensures across c.loop-at.invariant)

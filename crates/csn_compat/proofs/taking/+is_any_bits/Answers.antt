@@ -7,7 +7,8 @@ use Rattle.csn_compat.proofs.taking.+is_any_bits.Goals as goal
 
 pub is_any_bits-requires : goal.is_any_bits-requires
 is_any_bits-requires t c =
-    let part = is_behind c.args.desc.now c.args.j 0 c.in-Named.part (Named c.in-Named.label c.in-Named.part) _ c.requires.description c.node.ensures c.in-Named.is refl in
+    let part = is_behind c.args.desc.now c.args.j 0 c.in-Named.part (Named c.in-Named.label c.in-Named.part)
+    _ c.requires.description c.node.ensures c.in-Named.is refl in
     (omega arith, (c.requires.description, part.within))
 
 pub returns-in-Rest : goal.returns-in-Rest

@@ -57,4 +57,5 @@ returns-in-Some-clause-err c =
     let nodes = c.args.nodes.now.items in
     let above = c.in-Some.above in
     let there = c.requires above c.in-Some.is in
-    on_err c.add_part.result (λ stays. ap (λ m. set nodes above m) stays ∙ set_same nodes above c.index_mut.result.now c.index_mut.ensures.value) c.add_part.ensures.err
+    on_err c.add_part.result (λ stays. ap (λ m. set nodes above m) stays ∙ set_same nodes above c.index_mut.result.now
+    c.index_mut.ensures.value) c.add_part.ensures.err

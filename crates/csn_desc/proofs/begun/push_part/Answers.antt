@@ -24,7 +24,8 @@ returns-clause-ok c =
     c.push.ensures.items ∙ ap (λ b. if b then nodes ++ c.args.node ∷ [] else nodes) (c.is_err.ensures.negation ∙ ap not c.if-is_err.false) in
     let long : c.len-number.result ≡ length nodes = omega (arith, c.len-number.ensures) in
     above_begun nodes c.args.node c.args.above all c.add_part_above.new.nodes.items c.requires.above items c.add_part_above.ensures.none (λ i n is at.
-    ok_holds c.add_part_above.result (sym c.is_err-2.ensures.value ∙ c.if-is_err-2.false) (c.add_part_above.ensures.some i n is at) ∙ ap (λ k. set all i (with_part k n)) long)
+    ok_holds c.add_part_above.result (sym c.is_err-2.ensures.value ∙ c.if-is_err-2.false)
+    (c.add_part_above.ensures.some i n is at) ∙ ap (λ k. set all i (with_part k n)) long)
 
 pub returns-clause-err : goal.returns-clause-err
 returns-clause-err c = tt

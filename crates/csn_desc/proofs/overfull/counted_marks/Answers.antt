@@ -8,7 +8,8 @@ loop-node-init c = c.in_ok-marks.ensures.items_if_clones_equal (λ y e. e) ∙ f
 
 pub loop-node-preserved : goal.loop-node-preserved
 loop-node-preserved c =
-    c.mark.ensures ∙ next_marks c.args.nodes.now c.loop-node.node-index c.node-item.result c.loop-node.marks.items c.loop-node-test.true (sym c.node-item.is) c.loop-node.invariant
+    c.mark.ensures ∙ next_marks c.args.nodes.now c.loop-node.node-index c.node-item.result c.loop-node.marks.items
+    c.loop-node-test.true (sym c.node-item.is) c.loop-node.invariant
     c.counted_field.result c.counted_field.ensures
 
 pub returns : goal.returns

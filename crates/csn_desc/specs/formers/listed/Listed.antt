@@ -41,7 +41,8 @@ fields most = via (vec.the_former this Global) (λ X. Inside X most) (λ X a. a.
 
 module _ (M R S : RattleType) (h : R.Denot → S.Denot) where
   pub the_places : Alike R S h → Alike (C.the_row R M) (C.the_row S M) ((the_former this (value_of M)).map R.Denot S.Denot h)
-  the_places a = view_places (fields (value_of M)) (list this) (λ X. view X (value_of M)) (λ X Y k u. refl) (λ X u. refl) R.Denot S.Denot h (C.the_row R M).coded (C.the_row S M).coded
+  the_places a = view_places (fields (value_of M)) (list this) (λ X. view X (value_of M)) (λ X Y k u. refl)
+      (λ X u. refl) R.Denot S.Denot h (C.the_row R M).coded (C.the_row S M).coded
       (invariant R.Denot (value_of M)) (invariant S.Denot (value_of M)) (λ u. le_prop) (λ u. le_prop)
       (λ u. subst (λ n. n ≤ value_of M) (sym (length-map u.items.items h)))
       (λ u. subst (λ n. n ≤ value_of M) (length-map u.items.items h))

@@ -5,11 +5,22 @@ use Rattle.csn_encode.proofs.draft.octets_number.Goals as goal
 
 pub overflow_mul-number : goal.overflow_mul-number
 overflow_mul-number c =
-    omega (arith, c.loop-octet.invariant, first_octets_small c.args.octets.now c.loop-octet.octet-index (λ k. omega (arith, c.type_inv.octets k)) (omega arith) (omega (arith, c.requires)))
+    omega (
+      arith,
+      c.loop-octet.invariant,
+      first_octets_small c.args.octets.now c.loop-octet.octet-index
+          (λ k. omega (arith, c.type_inv.octets k)) (omega arith) (omega (arith, c.requires)),
+    )
 
 pub overflow_add-number : goal.overflow_add-number
 overflow_add-number c =
-    omega (arith, c.loop-octet.invariant, c.from.ensures, first_octets_small c.args.octets.now c.loop-octet.octet-index (λ k. omega (arith, c.type_inv.octets k)) (omega arith) (omega (arith, c.requires)))
+    omega (
+      arith,
+      c.loop-octet.invariant,
+      c.from.ensures,
+      first_octets_small c.args.octets.now
+          c.loop-octet.octet-index (λ k. omega (arith, c.type_inv.octets k)) (omega arith) (omega (arith, c.requires)),
+    )
 
 pub loop-octet-preserved : goal.loop-octet-preserved
 loop-octet-preserved c =

@@ -5,4 +5,6 @@ use Rattle.csn_encode.proofs.text.behind_all.Goals as goal
 
 pub returns : goal.returns
 returns c =
-    stripped c.args.text.now c.args.bytes.now c.strip_prefix.result (strip_prefix_is Decides-eqb c.args.text.now c.args.bytes.now c.strip_prefix.result c.strip_prefix.ensures.cases)
+    stripped c.args.text.now c.args.bytes.now c.strip_prefix.result
+    (strip_prefix_is Decides-eqb c.args.text.now c.args.bytes.now c.strip_prefix.result
+    c.strip_prefix.ensures.cases)

@@ -27,7 +27,9 @@ returns c = λ part at.
           | else-not-is_null-via-then-not-is_null+else-not-is_firm w ↦ w.is_firm.ensures.0 w.if-not-is_firm.false
           | else-not-is_null-via-else-not-is_null w ↦ absurd (not_null (c.is_null.ensures.0 w.if-not-is_null.false))
         ];
-        later = λ k other above at_k. c.loop-later.invariant k other above (let inside = slice_get_within c.args.parts.now k other at_k in let long = c.len-count.ensures.len in let over = c.loop-later-test.false in omega arith) at_k;
+        later = λ k other above at_k. c.loop-later.invariant k other above (let inside =
+            slice_get_within c.args.parts.now k other at_k in let long = c.len-count.ensures.len in let over =
+            c.loop-later-test.false in omega arith) at_k;
       }),
       (λ h. refl),
     )

@@ -27,6 +27,8 @@ loop-place-preserved c = λ place part less at.
 
 pub returns : goal.returns
 returns c = (
-  (λ h place part at. c.loop-place.invariant place part (let inside = slice_get_within c.args.parts.now place part at in let long = c.len-place-end.ensures.len in let over = c.loop-place-test.false in omega arith) at),
+  (λ h place part at. c.loop-place.invariant place part (let inside =
+      slice_get_within c.args.parts.now place part at in let long = c.len-place-end.ensures.len in let over =
+      c.loop-place-test.false in omega arith) at),
   (λ h. refl),
 )

@@ -8,7 +8,8 @@ pub loop-k-preserved : goal.loop-k-preserved
 loop-k-preserved c =
     let there = sym c.has.ensures ∙ c.if-not-has.false in
     let at = claimed_pattern (claimed c.args.c.now c.args.i c.args.octet) c.loop-k.k c.pattern_at.result there c.pattern_at.ensures in
-    c.in_ok-push.ensures.items ∙ ap (λ l. l ++ c.pattern_at.result ∷ []) c.loop-k.invariant ∙ sym (take_part (patterns_at c.args.c.now c.args.i c.args.octet) c.loop-k.k c.pattern_at.result at)
+    c.in_ok-push.ensures.items ∙ ap (λ l. l ++ c.pattern_at.result ∷ []) c.loop-k.invariant
+    ∙ sym (take_part (patterns_at c.args.c.now c.args.i c.args.octet) c.loop-k.k c.pattern_at.result at)
 
 pub returns : goal.returns
 returns c =

@@ -27,6 +27,10 @@ loop-at-preserved c = λ k a b less at_a at_b.
 
 pub returns : goal.returns
 returns c = (
-  (λ h. record { marks = λ k a b at_a at_b. c.loop-at.invariant k a b (let inside = slice_get_within c.args.left.marks k a at_a in let over = c.loop-at-test.false in let count = c.len-at-end.ensures.count in omega arith) at_a at_b }),
+  (λ h. record {
+    marks = λ k a b at_a at_b. c.loop-at.invariant k a b (let inside =
+        slice_get_within c.args.left.marks k a at_a in let over = c.loop-at-test.false in let count =
+        c.len-at-end.ensures.count in omega arith) at_a at_b;
+  }),
   (λ h. refl),
 )

@@ -11,7 +11,8 @@ returns-then-by_zero t c =
     let at = c.args.at in
     let own = subst (λ (l : List PatternV). AreWith left at Zero l) (sym c.as_slice.ensures.value) c.in_ok-zeros.ensures in
     let others = subst (λ (l : List PatternV). AreWith right at Zero l) (sym c.as_slice-2.ensures.value) c.in_ok-others.ensures in (
-      (λ h. back_from left right c.as_slice.result.now c.as_slice-2.result.now at Zero (λ e. absurd (cc)) own others (c.in_ok-by_zero.ensures.0 c.if-by_zero.true)),
+      (λ h. back_from left right c.as_slice.result.now c.as_slice-2.result.now at Zero (λ e. absurd (cc)) own others
+          (c.in_ok-by_zero.ensures.0 c.if-by_zero.true)),
       (λ h. refl),
     )
 
@@ -26,8 +27,9 @@ returns t c =
     let ones = subst (λ (l : List PatternV). AreWith left at One l) (sym c.as_slice-3.ensures.value) c.in_ok-ones.ensures in
     let more = subst (λ (l : List PatternV). AreWith right at One l) (sym c.as_slice-4.ensures.value) c.in_ok-more.ensures in (
       (λ h. back_from left right c.as_slice-3.result.now c.as_slice-4.result.now at One (λ e. absurd (cc)) ones more (c.in_ok-by_one.ensures.0 h)),
-      (λ h. elim (either_bit left right c.as_slice.result.now c.as_slice-2.result.now c.as_slice-3.result.now c.as_slice-4.result.now at long.left_long long.right_long zeros others ones more h) [
-        | inl low ↦ (let right = c.in_ok-by_zero.ensures.1 low in let wrong = c.if-by_zero.false in absurd (cc))
-        | inr high ↦ c.in_ok-by_one.ensures.1 high
-      ]),
+      (λ h. elim (either_bit left right c.as_slice.result.now c.as_slice-2.result.now c.as_slice-3.result.now
+          c.as_slice-4.result.now at long.left_long long.right_long zeros others ones more h) [
+            | inl low ↦ (let right = c.in_ok-by_zero.ensures.1 low in let wrong = c.if-by_zero.false in absurd (cc))
+            | inr high ↦ c.in_ok-by_one.ensures.1 high
+          ]),
     )

@@ -48,7 +48,8 @@ returns-in-Some-clause-unproved c = λ rule node same.
 pub loop-node-preserved : goal.loop-node-preserved
 loop-node-preserved c = λ i n less at.
     let Q : ℕ → Type 0 = λ k. slice_get c.args.desc.now.nodes k ≡ Some n → KeepsRules c.args.desc.now c.args.c.now k n in
-    let kept = subst (λ r. IfNone r (KeepsRules c.args.desc.now c.args.c.now c.loop-node.node c.node-this.result.now)) c.in-None.is c.in_ok-rule.ensures.none in
+    let kept = subst (λ r. IfNone r (KeepsRules c.args.desc.now c.args.c.now c.loop-node.node c.node-this.result.now))
+    c.in-None.is c.in_ok-rule.ensures.none in
     elim (eqb_tells i c.loop-node.node) [
       | inl same ↦ subst Q (sym same.1) (λ here.
           let got = c.node-this.ensures in
@@ -64,7 +65,11 @@ returns-clause-proved c = (
       let count = c.len-count.ensures.len in
       let agree = c.if-claimed-count.false in
       let over = c.loop-node-test.false in
-      record { number = omega arith; rules = λ i n at. c.loop-node.invariant i n (let inside = slice_get_within c.args.desc.now.nodes i n at in omega arith) at }),
+      record {
+        number = omega arith;
+        rules = λ i n at. c.loop-node.invariant i n (let inside =
+            slice_get_within c.args.desc.now.nodes i n at in omega arith) at;
+      }),
   (λ good. refl),
 )
 
@@ -74,5 +79,10 @@ returns-clause-one_tree c = λ same b t u left right.
     let count = c.len-count.ensures.len in
     let agree = c.if-claimed-count.false in
     let over = c.loop-node-test.false in
-    let good : Good c.args.desc.now c.args.c.now = record { number = omega arith; rules = λ i n at. c.loop-node.invariant i n (let inside = slice_get_within c.args.desc.now.nodes i n at in omega arith) at } in
+    let good : Good c.args.desc.now c.args.c.now =
+    record {
+      number = omega arith;
+      rules = λ i n at. c.loop-node.invariant i n (let inside =
+          slice_get_within c.args.desc.now.nodes i n at in omega arith) at;
+    } in
     c.good_leaves_one_tree.ensures c.args.desc.now c.args.c.now b t u c.len-count.ensures.description good left right

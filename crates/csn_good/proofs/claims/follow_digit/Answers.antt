@@ -5,7 +5,8 @@ use Rattle.csn_good.specs.ClaimedSets.{has_digit}
 use Rattle.csn_good.proofs.Digits.{digit_is}
 use Rattle.csn_good.proofs.claims.follow_digit.Goals as goal
 
-told : (n : Option NodeV) (result place : ℕ) → place < 24 → IfSome n (λ m. result ≡ m.follow) → IfSome n (λ m. nat_eq (result / 2 ^ (23 - place) % 2) 1 ≡ has_digit 24 m.follow place)
+told : (n : Option NodeV) (result place : ℕ) → place < 24 → IfSome n (λ m. result ≡ m.follow)
+    → IfSome n (λ m. nat_eq (result / 2 ^ (23 - place) % 2) 1 ≡ has_digit 24 m.follow place)
 told None result place less is = tt
 told (Some m) result place less is = ap (λ k. nat_eq (k / 2 ^ (23 - place) % 2) 1) is ∙ sym (digit_is 24 m.follow place less)
 

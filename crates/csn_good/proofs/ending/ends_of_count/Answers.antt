@@ -15,4 +15,6 @@ pub returns-in-Some : goal.returns-in-Some
 returns-in-Some c =
     let s = c.ends_of_values.result.has in
     subst (λ (count : Count). OctetsAre s (λ p. (n : ℕ) × MayCount c.args.desc.now count n × (p ≡ (c.args.octet + c.args.unit * n) % 8))) (sym c.in-Counted.is)
-    (counted_units c.args.desc.now s c.args.octet c.args.unit c.in-Counted.m c.in-Counted.field c.in-Counted.c c.in-Some.width c.residues.result (sym c.value_width.ensures ∙ c.in-Some.is) c.residues.ensures.values c.residues.ensures.all c.ends_of_values.ensures)
+    (counted_units c.args.desc.now s c.args.octet c.args.unit c.in-Counted.m c.in-Counted.field c.in-Counted.c
+    c.in-Some.width c.residues.result (sym c.value_width.ensures ∙ c.in-Some.is)
+    c.residues.ensures.values c.residues.ensures.all c.ends_of_values.ensures)

@@ -8,7 +8,8 @@ loop-at-init c = some_begin (claims_of c.args.c.now) c.args.parts.now c.args.fro
 
 pub loop-at-preserved : goal.loop-at-preserved
 loop-at-preserved c =
-    some_on (claims_of c.args.c.now) c.args.parts.now c.args.from.now.has c.loop-at.at c.get.result c.loop-at.ends.has c.through.result.has c.or-ends.result.has
+    some_on (claims_of c.args.c.now) c.args.parts.now c.args.from.now.has c.loop-at.at c.get.result c.loop-at.ends.has
+    c.through.result.has c.or-ends.result.has
     c.get.ensures c.through.ensures c.or-ends.ensures c.loop-at.invariant
 
 pub returns : goal.returns

@@ -12,7 +12,11 @@ use Rattle.csn_good.proofs.following.each_has.Goals as goal
 pub returns-then-not-has_wanted : goal.returns-then-not-has_wanted
 returns-then-not-has_wanted c = (
   (λ h. absurd (cc)),
-  (λ h. let right = c.has_wanted.ensures.1 ((choice_have (claims_of c.args.c.now) (ends_small c.args.c.now) (starts_small c.args.c.now) (are_counted c.args.c.now) (reached_small c.args.c.now c.requires.certificate) (ends_reach c.args.c.now) c.args.k c.args.parts.now).0 h c.loop-at.at c.get.result c.get.ensures) in
+  (λ h. let right =
+      c.has_wanted.ensures.1
+      ((choice_have (claims_of c.args.c.now) (ends_small c.args.c.now) (starts_small c.args.c.now)
+      (are_counted c.args.c.now) (reached_small c.args.c.now c.requires.certificate) (ends_reach c.args.c.now)
+      c.args.k c.args.parts.now).0 h c.loop-at.at c.get.result c.get.ensures) in
       let wrong = c.if-not-has_wanted.true in absurd (cc)),
 )
 
@@ -29,6 +33,10 @@ loop-at-preserved c = λ place i less at.
 
 pub returns : goal.returns
 returns c = (
-  (λ h. (choice_have (claims_of c.args.c.now) (ends_small c.args.c.now) (starts_small c.args.c.now) (are_counted c.args.c.now) (reached_small c.args.c.now c.requires.certificate) (ends_reach c.args.c.now) c.args.k c.args.parts.now).1 (λ place i at. c.loop-at.invariant place i (let inside = slice_get_within c.args.parts.now place i at in let long = c.len-at-end.ensures.len in let over = c.loop-at-test.false in omega arith) at)),
+  (λ h. (choice_have (claims_of c.args.c.now) (ends_small c.args.c.now) (starts_small c.args.c.now)
+      (are_counted c.args.c.now) (reached_small c.args.c.now c.requires.certificate) (ends_reach c.args.c.now)
+      c.args.k c.args.parts.now).1 (λ place i at. c.loop-at.invariant place i (let inside =
+      slice_get_within c.args.parts.now place i at in let long = c.len-at-end.ensures.len in let over =
+      c.loop-at-test.false in omega arith) at)),
   (λ h. refl),
 )

@@ -15,7 +15,8 @@ returns-then-not-is_covered c = (
   (λ h.
       let items = c.as_slice-pattern-items.result.now in
       let at = slice_get_read items (length items) c.loop-pattern.pattern-index c.pattern-item.result refl c.loop-pattern-test.true c.pattern-item.is in
-      let there = subst (λ l. Contains l c.pattern-item.result) c.as_slice-pattern-items.ensures (at_contained items c.loop-pattern.pattern-index c.pattern-item.result at) in
+      let there = subst (λ l. Contains l c.pattern-item.result) c.as_slice-pattern-items.ensures
+      (at_contained items c.loop-pattern.pattern-index c.pattern-item.result at) in
       let right = c.is_covered.ensures.1 (h c.pattern-item.result there) in
       let wrong = c.if-not-is_covered.true in
       absurd (cc)),

@@ -18,7 +18,12 @@ returns-then-covers c = (
   (λ h.
       let there = sym c.has.ensures ∙ c.if-not-has.false in
       let at = claimed_pattern (claimed c.args.c.now c.args.i c.args.octet) c.loop-k.k c.pattern_at.result there c.pattern_at.ensures in
-      record { wide = c.pattern_at.result; is_claimed = at_contained (patterns_at c.args.c.now c.args.i c.args.octet) c.loop-k.k c.pattern_at.result at; covers = c.covers.ensures.0 c.if-covers.true }),
+      record {
+        wide = c.pattern_at.result;
+        is_claimed = at_contained (patterns_at c.args.c.now c.args.i c.args.octet)
+            c.loop-k.k c.pattern_at.result at;
+        covers = c.covers.ensures.0 c.if-covers.true;
+      }),
   (λ h. refl),
 )
 
@@ -43,5 +48,6 @@ returns c = (
       let count = claimed_count (claimed c.args.c.now c.args.i c.args.octet) c.patterns-k-end.result there c.patterns-k-end.ensures in
       let inside = h.is_claimed.1 in
       let over = c.loop-k-test.false in
-      absurd (c.loop-k.invariant h.is_claimed.0 h.wide (omega arith) (contained_at (patterns_at c.args.c.now c.args.i c.args.octet) h.wide h.is_claimed) h.covers)),
+      absurd (c.loop-k.invariant h.is_claimed.0 h.wide (omega arith)
+      (contained_at (patterns_at c.args.c.now c.args.i c.args.octet) h.wide h.is_claimed) h.covers)),
 )

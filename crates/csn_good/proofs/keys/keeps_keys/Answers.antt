@@ -8,13 +8,24 @@ use Rattle.csn_good.proofs.keys.keeps_keys.Goals as goal
 pub returns-in_default : goal.returns-in_default
 returns-in_default c =
     tells c.leaf_is_covered.ensures
-    (leaf_keys c.args.desc.now c.args.c.now c.requires.certificate c.args.i c.args.node.now (other_is_leaf c.args.node.now c.in_default.not-Seq c.in_default.not-Choice c.in_default.not-Times c.in_default.not-Named))
+    (leaf_keys c.args.desc.now c.args.c.now c.requires.certificate c.args.i c.args.node.now
+    (other_is_leaf c.args.node.now c.in_default.not-Seq c.in_default.not-Choice c.in_default.not-Times
+    c.in_default.not-Named))
 
 pub returns-in_ok-made-in-Seq : goal.returns-in_ok-made-in-Seq
-returns-in_ok-made-in-Seq c = along (λ n. IsTrue c.made_is_covered.result ↔ KeepsKeys c.args.desc.now c.args.c.now c.args.i n) c.in-Seq.is (tells c.made_is_covered.ensures (seq_keys c.args.desc.now c.args.c.now c.requires.certificate c.args.i c.in-Seq.parts _ c.in_ok-made-in-Seq.ensures))
+returns-in_ok-made-in-Seq c =
+    along (λ n. IsTrue c.made_is_covered.result ↔ KeepsKeys c.args.desc.now c.args.c.now c.args.i n) c.in-Seq.is
+    (tells c.made_is_covered.ensures (seq_keys c.args.desc.now c.args.c.now c.requires.certificate c.args.i
+    c.in-Seq.parts _ c.in_ok-made-in-Seq.ensures))
 
 pub returns-in-Choice : goal.returns-in-Choice
-returns-in-Choice c = along (λ n. IsTrue c.each_is_covered.result ↔ KeepsKeys c.args.desc.now c.args.c.now c.args.i n) c.in-Choice.is (tells c.each_is_covered.ensures (choice_keys c.args.desc.now c.args.c.now c.requires.certificate c.args.i c.in-Choice.parts))
+returns-in-Choice c = along (λ n. IsTrue c.each_is_covered.result ↔ KeepsKeys c.args.desc.now c.args.c.now c.args.i n)
+    c.in-Choice.is
+    (tells c.each_is_covered.ensures (choice_keys c.args.desc.now c.args.c.now c.requires.certificate c.args.i
+    c.in-Choice.parts))
 
 pub returns-in-Named : goal.returns-in-Named
-returns-in-Named c = along (λ n. IsTrue c.part_is_covered.result ↔ KeepsKeys c.args.desc.now c.args.c.now c.args.i n) c.in-Named.is (tells c.part_is_covered.ensures (named_keys c.args.desc.now c.args.c.now c.requires.certificate c.args.i c.in-Named.label c.in-Named.part))
+returns-in-Named c = along (λ n. IsTrue c.part_is_covered.result ↔ KeepsKeys c.args.desc.now c.args.c.now c.args.i n)
+    c.in-Named.is
+    (tells c.part_is_covered.ensures (named_keys c.args.desc.now c.args.c.now c.requires.certificate c.args.i
+    c.in-Named.label c.in-Named.part))

@@ -6,6 +6,7 @@ use Rattle.csn_good.proofs.keys.made_is_covered.Goals as goal
 pub loop-octet-preserved : goal.loop-octet-preserved
 loop-octet-preserved c = λ o less.
     elim (eqb_tells o c.loop-octet.octet) [
-      | inl same ↦ subst (λ k. MadeIsCoveredAt c.args.c.now c.args.i c.args.made.now.at.items k) (sym same.1) (c.made_is_covered_at.ensures.0 c.if-not-made_is_covered_at.false)
+      | inl same ↦ subst (λ k. MadeIsCoveredAt c.args.c.now c.args.i c.args.made.now.at.items k) (sym same.1)
+          (c.made_is_covered_at.ensures.0 c.if-not-made_is_covered_at.false)
       | inr apart ↦ (let differ = apart.1 in c.loop-octet.invariant o (omega arith))
     ]

@@ -10,7 +10,9 @@ pub returns-then-not-mark_covers : goal.returns-then-not-mark_covers
 returns-then-not-mark_covers c = (
   (λ h. absurd (cc)),
   (λ h.
-      let right = c.mark_covers.ensures.1 (cover_at c.args.wide.marks c.args.pattern.marks c.loop-at.at c.get-own.result c.get-other.result h c.get-own.ensures c.get-other.ensures) in
+      let right = c.mark_covers.ensures.1
+      (cover_at c.args.wide.marks c.args.pattern.marks c.loop-at.at c.get-own.result c.get-other.result h
+      c.get-own.ensures c.get-other.ensures) in
       let wrong = c.if-not-mark_covers.true in
       absurd (cc)),
 )
@@ -21,7 +23,8 @@ loop-at-preserved c = λ k a b less at_a at_b.
       | inl same ↦
           let is_a = one_item c.args.wide.marks same.1 at_a c.get-own.ensures in
           let is_b = one_item c.args.pattern.marks same.1 at_b c.get-other.ensures in
-          subst (λ x. (x ≡ Any) ⊎ (x ≡ b)) (sym is_a) (subst (λ y. (c.get-own.result ≡ Any) ⊎ (c.get-own.result ≡ y)) (sym is_b) (c.mark_covers.ensures.0 c.if-not-mark_covers.false))
+          subst (λ x. (x ≡ Any) ⊎ (x ≡ b)) (sym is_a) (subst (λ y. (c.get-own.result ≡ Any) ⊎ (c.get-own.result ≡ y))
+          (sym is_b) (c.mark_covers.ensures.0 c.if-not-mark_covers.false))
       | inr apart ↦ (let differ = apart.1 in c.loop-at.invariant k a b (omega arith) at_a at_b)
     ]
 

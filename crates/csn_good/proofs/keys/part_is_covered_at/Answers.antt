@@ -19,7 +19,9 @@ returns-then-not-is_covered c = (
   (λ h.
       let there = sym c.has.ensures ∙ c.if-not-has.false in
       let at = claimed_pattern (claimed c.args.c.now c.args.part c.args.octet) c.loop-k.k c.pattern_at.result there c.pattern_at.ensures in
-      let right = c.is_covered.ensures.1 (h c.pattern_at.result (at_contained (patterns_at c.args.c.now c.args.part c.args.octet) c.loop-k.k c.pattern_at.result at)) in
+      let right = c.is_covered.ensures.1
+      (h c.pattern_at.result (at_contained (patterns_at c.args.c.now c.args.part c.args.octet)
+      c.loop-k.k c.pattern_at.result at)) in
       let wrong = c.if-not-is_covered.true in
       absurd (cc)),
 )

@@ -9,9 +9,12 @@ use Rattle.csn_good.proofs.keys.turns_are_covered.Goals as goal
 
 pub returns-in_ok-made-in-Fixed : goal.returns-in_ok-made-in-Fixed
 returns-in_ok-made-in-Fixed c =
-    along (λ n. IsTrue c.made_is_covered.result ↔ KeepsKeys c.args.desc.now c.args.c.now c.args.i n) (c.requires.is ∙ ap (λ k. Times k c.args.part) c.in-Fixed.is)
-    (tells c.made_is_covered.ensures (times_keys c.args.desc.now c.args.c.now c.requires.certificate c.args.i c.in-Fixed.n c.args.part _ c.in_ok-made-in-Fixed.ensures))
+    along (λ n. IsTrue c.made_is_covered.result ↔ KeepsKeys c.args.desc.now c.args.c.now c.args.i n)
+    (c.requires.is ∙ ap (λ k. Times k c.args.part) c.in-Fixed.is)
+    (tells c.made_is_covered.ensures (times_keys c.args.desc.now c.args.c.now c.requires.certificate c.args.i
+    c.in-Fixed.n c.args.part _ c.in_ok-made-in-Fixed.ensures))
 
 pub returns-in-Counted : goal.returns-in-Counted
 returns-in-Counted c =
-    tells c.leaf_is_covered.ensures (leaf_keys c.args.desc.now c.args.c.now c.requires.certificate c.args.i c.args.node.now (along IsLeaf (c.requires.is ∙ ap (λ k. Times k c.args.part) c.in-Counted.is) tt))
+    tells c.leaf_is_covered.ensures (leaf_keys c.args.desc.now c.args.c.now c.requires.certificate c.args.i
+    c.args.node.now (along IsLeaf (c.requires.is ∙ ap (λ k. Times k c.args.part) c.in-Counted.is) tt))

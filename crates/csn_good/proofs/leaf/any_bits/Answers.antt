@@ -8,7 +8,9 @@ use Rattle.csn_good.proofs.leaf.any_bits.Goals as goal
 pub loop-at-preserved : goal.loop-at-preserved
 loop-at-preserved c =
     let less = c.loop-at-test.true in (
-      ap (λ q. q.marks) c.push.ensures ∙ ap (λ l. l ++ Any ∷ []) c.loop-at.invariant.0 ∙ sym (take_part (replicate c.args.size Any) c.loop-at.at Any (replicate_at c.args.size c.loop-at.at Any (omega arith))),
+      ap (λ q. q.marks) c.push.ensures ∙ ap (λ l. l ++ Any ∷ []) c.loop-at.invariant.0
+          ∙ sym (take_part (replicate c.args.size Any) c.loop-at.at Any (replicate_at c.args.size c.loop-at.at Any
+          (omega arith))),
       ap (λ q. q.whole) c.push.ensures ∙ c.loop-at.invariant.1,
     )
 

@@ -8,7 +8,9 @@ use Rattle.csn_good.proofs.leaf.literal.Goals as goal
 
 pub loop-at-preserved : goal.loop-at-preserved
 loop-at-preserved c = (
-  ap (λ q. q.marks) c.push.ensures ∙ ap (λ l. l ++ c.mark_of.result ∷ []) c.loop-at.invariant.0 ∙ sym (spelled_on c.args.run.now c.args.octet c.loop-at.at c.get.result.now c.mark_of.result c.get.ensures c.mark_of.ensures),
+  ap (λ q. q.marks) c.push.ensures ∙ ap (λ l. l ++ c.mark_of.result ∷ []) c.loop-at.invariant.0
+      ∙ sym (spelled_on c.args.run.now c.args.octet c.loop-at.at c.get.result.now c.mark_of.result c.get.ensures
+      c.mark_of.ensures),
   ap (λ q. q.whole) c.push.ensures ∙ c.loop-at.invariant.1,
 )
 

@@ -7,7 +7,8 @@ use Rattle.csn_good.proofs.made.joined.Goals.{then-whole, else-whole, then-len, 
 
 pub loop-at-preserved : goal.loop-at-preserved
 loop-at-preserved c = (
-  ap (λ q. q.marks) c.push.ensures ∙ ap (λ l. l ++ c.get.result ∷ []) c.loop-at.invariant.0 ∙ sym (take_part c.args.first.marks c.loop-at.at c.get.result c.get.ensures),
+  ap (λ q. q.marks) c.push.ensures ∙ ap (λ l. l ++ c.get.result ∷ []) c.loop-at.invariant.0
+      ∙ sym (take_part c.args.first.marks c.loop-at.at c.get.result c.get.ensures),
   ap (λ q. q.whole) c.push.ensures ∙ c.loop-at.invariant.1,
 )
 
@@ -16,7 +17,9 @@ loop-at-2-init c =
     let over = c.loop-at-test.false in
     let size = c.len-at-end.ensures.count in
     let few = c.len-at-end.ensures.few in (
-      c.loop-at.invariant.0 ∙ take_whole c.args.first.marks c.loop-at.at (omega arith) ∙ sym (ap (λ l. take 12 l) (append-nil c.args.first.marks) ∙ take_whole c.args.first.marks 12 (omega arith)),
+      c.loop-at.invariant.0 ∙ take_whole c.args.first.marks c.loop-at.at (omega arith)
+          ∙ sym (ap (λ l. take 12 l) (append-nil c.args.first.marks) ∙ take_whole c.args.first.marks 12
+          (omega arith)),
       c.loop-at.invariant.1,
     )
 
@@ -26,7 +29,10 @@ loop-at-2-preserved c = elim c.if-len.branch [
       let size = c.len-in-loop-at-2.ensures.count in
       let same = ap length c.loop-at-2.invariant.0 in
       let room = w.if-len.true in (
-        ap (λ q. q.marks) w.both-is ∙ ap (λ q. q.marks) w.push-then-len.ensures ∙ ap (λ l. l ++ w.get-then-len.result ∷ []) c.loop-at-2.invariant.0 ∙ join_on c.args.first.marks c.args.rest.marks c.loop-at-2.at w.get-then-len.result w.get-then-len.ensures (omega arith),
+        ap (λ q. q.marks) w.both-is ∙ ap (λ q. q.marks) w.push-then-len.ensures
+            ∙ ap (λ l. l ++ w.get-then-len.result ∷ []) c.loop-at-2.invariant.0
+            ∙ join_on c.args.first.marks c.args.rest.marks c.loop-at-2.at w.get-then-len.result w.get-then-len.ensures
+            (omega arith),
         ap (λ q. q.whole) w.both-is ∙ ap (λ q. q.whole) w.push-then-len.ensures ∙ c.loop-at-2.invariant.1,
       )
   | else-len w ↦
@@ -49,7 +55,8 @@ returns c =
           let one = w.len.ensures.count in
           let two = w.len-then-whole.ensures.count in
           let told : c.args.rest.whole ≡ true = sym c.whole.ensures ∙ w.if-whole.true in
-          w.whole-is ∙ ap (λ n. nat_le (n + w.len-then-whole.result) 12) one ∙ ap (λ n. nat_le (length c.args.first.marks + n) 12) two ∙ sym (and_true c.args.rest.whole few told)
+          w.whole-is ∙ ap (λ n. nat_le (n + w.len-then-whole.result) 12) one
+          ∙ ap (λ n. nat_le (length c.args.first.marks + n) 12) two ∙ sym (and_true c.args.rest.whole few told)
       | else-whole w ↦
           let told : c.args.rest.whole ≡ false = sym c.whole.ensures ∙ w.if-whole.false in
           w.whole-is ∙ w.if-whole.false ∙ sym (and_false c.args.rest.whole few told)

@@ -21,7 +21,8 @@ returns-then-is_same c =
     let on = times_on c.args.c.now c.loop-turn.turn c.args.i c.loop-turn.made.at.items c.in_ok-more.more.at.items c.loop-turn.invariant c.in_ok-more.ensures in
     let same = c.is_same.ensures c.if-is_same.true in
     let less = c.loop-turn-test.true in
-    times_stay c.args.c.now c.args.n c.loop-turn.turn c.args.i c.loop-turn.made.at.items c.in_ok-more.more.at.items (omega arith) c.loop-turn.invariant on (λ o p. (same o p).0) (λ o p. (same o p).1)
+    times_stay c.args.c.now c.args.n c.loop-turn.turn c.args.i c.loop-turn.made.at.items c.in_ok-more.more.at.items
+    (omega arith) c.loop-turn.invariant on (λ o p. (same o p).0) (λ o p. (same o p).1)
 
 pub loop-turn-preserved : goal.loop-turn-preserved
 loop-turn-preserved c =

@@ -14,13 +14,17 @@ loop-end-init c = many_begin (claims_of c.args.c.now) (ends_small c.args.c.now) 
 
 pub loop-end-preserved : goal.loop-end-preserved
 loop-end-preserved c =
-    many_on (claims_of c.args.c.now) (ends_small c.args.c.now) c.args.i c.in-Some.end c.args.from.now.has c.loop-end.ends.has c.with-ends.result.has c.with-ends.ensures.members c.in-Some.ensures.some.2 c.loop-end.invariant
+    many_on (claims_of c.args.c.now) (ends_small c.args.c.now) c.args.i c.in-Some.end c.args.from.now.has
+    c.loop-end.ends.has c.with-ends.result.has c.with-ends.ensures.members c.in-Some.ensures.some.2
+    c.loop-end.invariant
 
 pub loop-end-smaller : goal.loop-end-smaller
 loop-end-smaller c =
     let told = c.in-Some.ensures.some in
-    fewer c.loop-end.ends.has c.with-ends.result.has c.in-Some.end told.1 ((c.with-ends.ensures.members c.in-Some.end told.0).1 (inr refl)) c.with-ends.ensures.same
+    fewer c.loop-end.ends.has c.with-ends.result.has c.in-Some.end told.1
+    ((c.with-ends.ensures.members c.in-Some.end told.0).1 (inr refl)) c.with-ends.ensures.same
 
 pub returns : goal.returns
 returns c =
-    many_done (claims_of c.args.c.now) (ends_small c.args.c.now) c.args.i c.args.from.now.has c.loop-end.ends.has c.in_default.ensures.none c.loop-end.invariant
+    many_done (claims_of c.args.c.now) (ends_small c.args.c.now) c.args.i c.args.from.now.has c.loop-end.ends.has
+    c.in_default.ensures.none c.loop-end.invariant

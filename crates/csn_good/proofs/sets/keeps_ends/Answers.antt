@@ -8,6 +8,7 @@ pub returns : goal.returns
 returns c = (
   (λ h o p reached ends.
       let low = reached_small c.args.c.now c.requires.certificate c.args.i o reached in
-      c.loop-octet.invariant o p (omega (arith, c.loop-octet-test.false)) (node_ends_small c.args.desc.now (claims_of c.args.c.now) (ends_small c.args.c.now) low ends) reached ends),
+      c.loop-octet.invariant o p (omega (arith, c.loop-octet-test.false))
+      (node_ends_small c.args.desc.now (claims_of c.args.c.now) (ends_small c.args.c.now) low ends) reached ends),
   (λ h. refl),
 )

@@ -7,6 +7,8 @@ pub returns : goal.returns
 returns c = (
   (λ h o bit reached starts.
       let low = reached_small c.args.c.now c.requires.certificate c.args.i o reached in
-      c.loop-octet.invariant o bit (omega (arith, c.loop-octet-test.false)) (node_starts_one c.args.desc.now (claims_of c.args.c.now) (starts_small c.args.c.now) starts) reached starts),
+      c.loop-octet.invariant o bit (omega (arith, c.loop-octet-test.false))
+      (node_starts_one c.args.desc.now (claims_of c.args.c.now) (starts_small c.args.c.now) starts)
+      reached starts),
   (λ h. refl),
 )

@@ -12,9 +12,11 @@ loop-at-init c =
 
 pub loop-at-preserved : goal.loop-at-preserved
 loop-at-preserved c =
-    subst (λ (ps : List ℕ). TailIs (claims_of c.args.c.now) c.behind-tail.result ps) (sym (last_more c.args.parts.now c.loop-at.at c.get.result c.loop-at-test.true c.get.ensures))
+    subst (λ (ps : List ℕ). TailIs (claims_of c.args.c.now) c.behind-tail.result ps)
+    (sym (last_more c.args.parts.now c.loop-at.at c.get.result c.loop-at-test.true c.get.ensures))
     (c.behind-tail.ensures (drop c.loop-at.at c.args.parts.now) c.loop-at.invariant)
 
 pub returns : goal.returns
 returns c =
-    subst (λ (ps : List ℕ). TailIs (claims_of c.args.c.now) c.loop-at.tail ps) (last_all c.args.parts.now c.loop-at.at c.loop-at-test.false) c.loop-at.invariant
+    subst (λ (ps : List ℕ). TailIs (claims_of c.args.c.now) c.loop-at.tail ps)
+    (last_all c.args.parts.now c.loop-at.at c.loop-at-test.false) c.loop-at.invariant

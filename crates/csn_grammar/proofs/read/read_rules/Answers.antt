@@ -17,13 +17,17 @@ pub returns-in_err-reader-in-Ok-Some-clause-none : goal.returns-in_err-reader-in
 returns-in_err-reader-in-Ok-Some-clause-none c =
     let p = err_from_is_err_and c.from_residual.result c.from_residual.ensures.1 in
     let next = next_of c.tokens.lexer.place c.tokens.invariant.text (c.in-Ok-Some.is ∙ ap (λ o. Ok o) c.in-Ok-Some.field-0-is) c.next.ensures.next in
-    rw (p.1, p.2) ((says_token c.one_thing_is_next.ensures.one c.in-Ok-Some.token c.in_err-reader-in-Ok-Some.field-0.0 c.tokens.invariant.read next c.in_err-reader-in-Ok-Some.ensures).none)
+    rw (p.1, p.2)
+    ((says_token c.one_thing_is_next.ensures.one c.in-Ok-Some.token c.in_err-reader-in-Ok-Some.field-0.0
+    c.tokens.invariant.read next c.in_err-reader-in-Ok-Some.ensures).none)
 
 pub returns-in_err-reader-in-Ok-Some-clause-place : goal.returns-in_err-reader-in-Ok-Some-clause-place
 returns-in_err-reader-in-Ok-Some-clause-place c =
     let p = err_from_is_err_and c.from_residual.result c.from_residual.ensures.1 in
     let next = next_of c.tokens.lexer.place c.tokens.invariant.text (c.in-Ok-Some.is ∙ ap (λ o. Ok o) c.in-Ok-Some.field-0-is) c.next.ensures.next in
-    rw (p.1, p.2) ((says_token c.one_thing_is_next.ensures.one c.in-Ok-Some.token c.in_err-reader-in-Ok-Some.field-0.0 c.tokens.invariant.read next c.in_err-reader-in-Ok-Some.ensures).place)
+    rw (p.1, p.2)
+    ((says_token c.one_thing_is_next.ensures.one c.in-Ok-Some.token c.in_err-reader-in-Ok-Some.field-0.0
+    c.tokens.invariant.read next c.in_err-reader-in-Ok-Some.ensures).place)
 
 pub tokens-preserved : goal.tokens-preserved
 tokens-preserved c =
@@ -53,11 +57,13 @@ returns-in-Ok-None-clause-place c =
 
 pub returns-in-Err-clause-none : goal.returns-in-Err-clause-none
 returns-in-Err-clause-none c =
-    (says_byte c.one_thing_is_next.ensures.one c.in-Err.fault c.tokens.invariant.read (next_of c.tokens.lexer.place c.tokens.invariant.text c.in-Err.is c.next.ensures.next)).none
+    (says_byte c.one_thing_is_next.ensures.one c.in-Err.fault c.tokens.invariant.read
+    (next_of c.tokens.lexer.place c.tokens.invariant.text c.in-Err.is c.next.ensures.next)).none
 
 pub returns-in-Err-clause-place : goal.returns-in-Err-clause-place
 returns-in-Err-clause-place c =
-    (says_byte c.one_thing_is_next.ensures.one c.in-Err.fault c.tokens.invariant.read (next_of c.tokens.lexer.place c.tokens.invariant.text c.in-Err.is c.next.ensures.next)).place
+    (says_byte c.one_thing_is_next.ensures.one c.in-Err.fault c.tokens.invariant.read
+    (next_of c.tokens.lexer.place c.tokens.invariant.text c.in-Err.is c.next.ensures.next)).place
 
 pub finish-requires : goal.finish-requires
 finish-requires c = record {

@@ -36,7 +36,8 @@ fn cut_braces(alloc: Global, span: Span, inner: Expr) -> Result<Mode, Stop>
 fn after_slashes(alloc: Global, within: Within, base: Expr, piece: Piece<'_>) -> Result<Next, Stop>
     requires { piece.token.kind ≡ TokenKind.SlashSlash }
     ensures { Gives result
-        (after_slashes within.frames within.level (cut_group base piece.entry.token.end) base piece.entry.token.start piece.entry.token.end piece.entry.text.now) }
+        (after_slashes within.frames within.level (cut_group base piece.entry.token.end)
+        base piece.entry.token.start piece.entry.token.end piece.entry.text.now) }
 {
     let span = base.span;
     match base.form {
@@ -74,7 +75,8 @@ fn raised(
 /// Takes the token behind a base, which may have an exponent.
 #[tactic(auto, unfolding(crate::specs::reader::BodySteps::after_base))]
 pub fn after_base(alloc: Global, within: Within, base: Expr, piece: Piece<'_>) -> Result<Next, Stop>
-    ensures { Gives result (after_base within.frames within.level base piece.entry.token.kind piece.entry.token.start piece.entry.token.end piece.entry.text.now) }
+    ensures { Gives result (after_base within.frames within.level base piece.entry.token.kind piece.entry.token.start
+        piece.entry.token.end piece.entry.text.now) }
 {
     let progress = match piece.token.kind {
         TokenKind::ParenLeft => Progress::Bracket,
@@ -97,7 +99,8 @@ pub fn in_exponent(
     progress: Progress,
     piece: Piece<'_>,
 ) -> Result<Next, Stop>
-    ensures { Gives result (after_exponent within.frames within.level base piece.entry.token.end (exponent_step progress piece.entry.token.kind piece.entry.text.now)) }
+    ensures { Gives result (after_exponent within.frames within.level base piece.entry.token.end
+        (exponent_step progress piece.entry.token.kind piece.entry.text.now)) }
 {
     match exponent_step(alloc, progress, piece) {
         Ok(ExponentNext::Goes(progress)) => Ok(goes(within, Mode::Exponent { base, progress })),

@@ -27,7 +27,8 @@ fn begin_other(within: Within, joint: Joint) -> Result<Next, Stop>
 // Behind a side, or two with `&` between.
 #[tactic(auto, unfolding(crate::specs::reader::BodySteps::after_window))]
 fn after_window(alloc: Global, within: Within, window: Expr, piece: Piece<'_>) -> Result<Next, Stop>
-    ensures { Gives result (after_window within.frames within.level window piece.entry.token.kind piece.entry.token.start piece.entry.token.end piece.entry.text.now) }
+    ensures { Gives result (after_window within.frames within.level window piece.entry.token.kind
+        piece.entry.token.start piece.entry.token.end piece.entry.text.now) }
 {
     match piece.token.kind {
         TokenKind::Equal => begin_other(within, Joint::Sends(window)),
@@ -38,7 +39,8 @@ fn after_window(alloc: Global, within: Within, window: Expr, piece: Piece<'_>) -
 /// Takes the token behind a side that has no exponent any more.
 #[tactic(auto, unfolding(crate::specs::reader::BodySteps::after_side, crate::specs::reader::BodySteps::after_joint))]
 pub fn after_side(alloc: Global, within: Within, side: Expr, piece: Piece<'_>) -> Result<Next, Stop>
-    ensures { Gives result (after_side within.frames within.level side piece.entry.token.kind piece.entry.token.start piece.entry.token.end piece.entry.text.now) }
+    ensures { Gives result (after_side within.frames within.level side piece.entry.token.kind piece.entry.token.start
+        piece.entry.token.end piece.entry.text.now) }
 {
     let Within { frames, level } = within;
     let Level {

@@ -39,7 +39,8 @@ fn with_item(level: Level, item: Expr) -> Result<Level, Stop>
 
 // Begins the next item.
 fn next_item(alloc: Global, within: Within, item: Expr, piece: Piece<'_>) -> Result<Next, Stop>
-    ensures { Gives result (begin_side within.frames (with_item within.level item) piece.entry.token.kind piece.entry.token.start piece.entry.token.end piece.entry.text.now) }
+    ensures { Gives result (begin_side within.frames (with_item within.level item)
+        piece.entry.token.kind piece.entry.token.start piece.entry.token.end piece.entry.text.now) }
 {
     let Within { frames, level } = within;
     let level = with_item(level, item)?;
@@ -98,7 +99,8 @@ fn end_items(alloc: Global, within: Within, item: Expr, token: Token) -> Result<
 /// Takes the token behind an item that is whole.
 #[tactic(auto, unfolding(crate::specs::reader::BodySteps::after_item))]
 pub fn after_item(alloc: Global, within: Within, item: Expr, piece: Piece<'_>) -> Result<Next, Stop>
-    ensures { Gives result (after_item within.frames within.level item piece.entry.token.kind piece.entry.token.start piece.entry.token.end piece.entry.text.now) }
+    ensures { Gives result (after_item within.frames within.level item piece.entry.token.kind piece.entry.token.start
+        piece.entry.token.end piece.entry.text.now) }
 {
     let token = piece.token;
     match token.kind {

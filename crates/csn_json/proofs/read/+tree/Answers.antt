@@ -5,7 +5,8 @@ use Rattle.serde_json.specs.View.{view, number_view, items_view, members_view}
 use Rattle.serde_json.specs.declared.value.Value.{the_lemmas}
 use Rattle.serde_json.proofs.Views.{view-Array}
 use Rattle.csn_json.specs.Reading.{IsShown, AreShown, values_in, values_in_items}
-use Rattle.csn_json.proofs.Refusals.{passed, memory_alone, passed_memory, no_room, no_truth, no_number, line_of, row_of, members_of, member_refused, tagged_shown}
+use Rattle.csn_json.proofs.Refusals.{passed, memory_alone, passed_memory, no_room, no_truth, no_number, line_of}
+use Rattle.csn_json.proofs.Refusals.{row_of, members_of, member_refused, tagged_shown}
 use Rattle.csn_json.proofs.Rows.{next_shown, item_shown, few_items, few_in_item}
 use Rattle.csn_json.proofs.read.+tree.Goals as goal
 
@@ -45,7 +46,8 @@ rows_of-loop-value-preserved t c =
 
 pub rows_of-returns-in_err-push_tree-clause-refused : goal.rows_of-returns-in_err-push_tree-clause-refused
 rows_of-returns-in_err-push_tree-clause-refused t c =
-    passed_memory _ c.from_residual-in_err-push_tree.result c.in_err-push_tree.field-0.0 c.from_residual-in_err-push_tree.ensures.1 c.in_err-push_tree.ensures.memory
+    passed_memory _ c.from_residual-in_err-push_tree.result c.in_err-push_tree.field-0.0
+    c.from_residual-in_err-push_tree.ensures.1 c.in_err-push_tree.ensures.memory
 
 -- ---- the members of an object
 
@@ -56,7 +58,8 @@ tagged_of-returns-in_default-clause-refused t c = λ t' is.
 
 pub tagged_of-returns-in_err-tag-clause-refused : goal.tagged_of-returns-in_err-tag-clause-refused
 tagged_of-returns-in_err-tag-clause-refused t c =
-    member_refused c.args.round (members_view c.args.members.now.entries) c.in-Some.key.now (view c.in-Some.of.now) (view c.in-Some.inside.now) c.in-Some.ensures.some
+    member_refused c.args.round (members_view c.args.members.now.entries) c.in-Some.key.now (view c.in-Some.of.now)
+    (view c.in-Some.inside.now) c.in-Some.ensures.some
     c.from_residual.result c.in_err-tag.field-0.0 c.from_residual.ensures.1 (λ nothing found. nothing found.tag found.is_tag) c.in_err-tag.ensures.refused
 
 pub tagged_of-tree_of-requires : goal.tagged_of-tree_of-requires
@@ -66,13 +69,16 @@ tagged_of-tree_of-requires t c =
 
 pub tagged_of-returns-in_err-tree-clause-refused : goal.tagged_of-returns-in_err-tree-clause-refused
 tagged_of-returns-in_err-tree-clause-refused t c =
-    member_refused c.args.round (members_view c.args.members.now.entries) c.in-Some.key.now (view c.in-Some.of.now) (view c.in-Some.inside.now) c.in-Some.ensures.some
-    c.from_residual-in_err-tree.result c.in_err-tree.field-0.0 c.from_residual-in_err-tree.ensures.1 (λ nothing found. nothing found.tree found.below) c.in_err-tree.ensures.refused
+    member_refused c.args.round (members_view c.args.members.now.entries) c.in-Some.key.now (view c.in-Some.of.now)
+    (view c.in-Some.inside.now) c.in-Some.ensures.some
+    c.from_residual-in_err-tree.result c.in_err-tree.field-0.0 c.from_residual-in_err-tree.ensures.1
+    (λ nothing found. nothing found.tree found.below) c.in_err-tree.ensures.refused
 
 pub tagged_of-returns : goal.tagged_of-returns
 tagged_of-returns t c = record {
   ok =
-      tagged_shown c.args.round (members_view c.args.members.now.entries) c.in-Some.key.now (view c.in-Some.of.now) (view c.in-Some.inside.now) c.in-Some.ensures.some
+      tagged_shown c.args.round (members_view c.args.members.now.entries) c.in-Some.key.now (view c.in-Some.of.now)
+      (view c.in-Some.inside.now) c.in-Some.ensures.some
       c.in_ok-tag.tag c.in_ok-tree.tree c.with_tag.result c.in_ok-tag.ensures.ok c.in_ok-tree.ensures.ok c.with_tag.ensures.ok;
   refused = memory_alone _ c.with_tag.result c.with_tag.ensures.memory;
 }
@@ -97,7 +103,8 @@ tree_of-returns-in_err-bits_of-in-String-clause-refused t c =
 pub tree_of-returns-in_err-rows_of-in-Array-clause-refused : goal.tree_of-returns-in_err-rows_of-in-Array-clause-refused
 tree_of-returns-in_err-rows_of-in-Array-clause-refused t c =
     let seen = ap view c.in-Array.is ∙ view-Array c.in-Array.values in
-    passed c.from_residual-in_err-rows_of-in-Array.result c.in_err-rows_of-in-Array.field-0.0 c.from_residual-in_err-rows_of-in-Array.ensures.1 (λ nothing t' is.
+    passed c.from_residual-in_err-rows_of-in-Array.result c.in_err-rows_of-in-Array.field-0.0
+    c.from_residual-in_err-rows_of-in-Array.ensures.1 (λ nothing t' is.
     let found = row_of c.args.round (items_view c.in-Array.values.items) t' (subst (λ d. IsShown c.args.round d t') seen is) in
     nothing found.0 found.1) c.in_err-rows_of-in-Array.ensures.refused
 

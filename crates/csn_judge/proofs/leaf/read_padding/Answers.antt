@@ -7,16 +7,30 @@ use Rattle.csn_judge.proofs.leaf.read_padding.Goals as goal
 
 pub returns-then-is_closed : goal.returns-then-is_closed
 returns-then-is_closed g c =
-    let r : IsReadied 56 c.ready-ready.result c.args.source.now c.ready-ready.new.self = record { same = c.ready-ready.ensures.same; good = c.ready-ready.ensures.good; count = c.ready-ready.ensures.count } in
+    let r : IsReadied 56 c.ready-ready.result c.args.source.now c.ready-ready.new.self =
+    record {
+      same = c.ready-ready.ensures.same;
+      good = c.ready-ready.ensures.good;
+      count =
+          c.ready-ready.ensures.count;
+    } in
     λ d reading.
-    pad_reads_all d g.T.Track.takes c.args.node.now c.args.source.now c.ready-ready.new.self c.args.track.now c.args.track.now (given_none c.if-ready-eq0.true r) c.if-begun.true
+    pad_reads_all d g.T.Track.takes c.args.node.now c.args.source.now c.ready-ready.new.self c.args.track.now
+    c.args.track.now (given_none c.if-ready-eq0.true r) c.if-begun.true
     (c.is_closed.ensures.0 c.if-is_closed.true) refl
 
 pub returns-then-ready-eq0 : goal.returns-then-ready-eq0
 returns-then-ready-eq0 g c =
-    let r : IsReadied 56 c.ready-ready.result c.args.source.now c.ready-ready.new.self = record { same = c.ready-ready.ensures.same; good = c.ready-ready.ensures.good; count = c.ready-ready.ensures.count } in
+    let r : IsReadied 56 c.ready-ready.result c.args.source.now c.ready-ready.new.self =
+    record {
+      same = c.ready-ready.ensures.same;
+      good = c.ready-ready.ensures.good;
+      count =
+          c.ready-ready.ensures.count;
+    } in
     λ d reading.
-    pad_stays d g.T.Track.takes c.args.node.now c.args.source.now c.ready-ready.new.self c.args.track.now c.args.track.now (given_none c.if-ready-eq0.true r) (lit< tt)
+    pad_stays d g.T.Track.takes c.args.node.now c.args.source.now c.ready-ready.new.self c.args.track.now
+    c.args.track.now (given_none c.if-ready-eq0.true r) (lit< tt)
     (λ begun closed. elim c.else-begun.branch [
       | else-begun-via-then-begun+else-is_closed w ↦ absurd (true_and_false (w.is_closed.ensures.1 closed) w.if-is_closed.false)
       | else-begun-via-else-begun w ↦ absurd (true_and_false begun w.if-begun.false)
@@ -25,16 +39,30 @@ returns-then-ready-eq0 g c =
 
 pub returns-in-Some : goal.returns-in-Some
 returns-in-Some g c =
-    let r : IsReadied 56 c.ready-ready.result c.args.source.now c.ready-ready.new.self = record { same = c.ready-ready.ensures.same; good = c.ready-ready.ensures.good; count = c.ready-ready.ensures.count } in
+    let r : IsReadied 56 c.ready-ready.result c.args.source.now c.ready-ready.new.self =
+    record {
+      same = c.ready-ready.ensures.same;
+      good = c.ready-ready.ensures.good;
+      count =
+          c.ready-ready.ensures.count;
+    } in
     λ d reading.
     let found = c.in-Some.ensures.some in
-    pad_reads_none d g.T.Track.takes c.args.node.now c.args.source.now c.take_spare.new.source c.args.track.now c.take_spare.new.track c.ready-ready.new.self r c.in-Some.place (reading ∙ found.0) found.1 found.2
+    pad_reads_none d g.T.Track.takes c.args.node.now c.args.source.now c.take_spare.new.source c.args.track.now
+    c.take_spare.new.track c.ready-ready.new.self r c.in-Some.place (reading ∙ found.0) found.1 found.2
 
 pub returns-in-None : goal.returns-in-None
 returns-in-None g c =
-    let r : IsReadied 56 c.ready-ready.result c.args.source.now c.ready-ready.new.self = record { same = c.ready-ready.ensures.same; good = c.ready-ready.ensures.good; count = c.ready-ready.ensures.count } in
+    let r : IsReadied 56 c.ready-ready.result c.args.source.now c.ready-ready.new.self =
+    record {
+      same = c.ready-ready.ensures.same;
+      good = c.ready-ready.ensures.good;
+      count =
+          c.ready-ready.ensures.count;
+    } in
     λ d reading.
     let found = c.in-None.ensures.none in
-    pad_reads_some d g.T.Track.takes c.args.node.now c.args.source.now c.take_spare.new.source c.args.track.now c.take_spare.new.track (given r found.0) (omega (arith, c.if-ready-eq0.false))
+    pad_reads_some d g.T.Track.takes c.args.node.now c.args.source.now c.take_spare.new.source c.args.track.now
+    c.take_spare.new.track (given r found.0) (omega (arith, c.if-ready-eq0.false))
     (spare_of Low reading c.ready-ready.result c.ready-ready.ensures.same.place c.ready-ready.ensures.same.bits found.1)
     (told_of g.T.Track.takes c.args.node.now c.args.track.now c.take_spare.new.track c.ready-ready.result c.ready-ready.ensures.same.bits found.2)

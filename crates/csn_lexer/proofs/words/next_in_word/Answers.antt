@@ -1,7 +1,8 @@
 use Rattle.std.proofs.Common.{◌+◌, ◌<◌, length, inl, inr, sym, ◌∙◌, arith, rules}
 use Rattle.csn_lexer.proofs.Tails.{tail_after_byte, tail_after_pair, tail_stops, starts_rest, starts_within}
 use Rattle.csn_lexer.proofs.words.next_in_word.Goals as goal
-use Rattle.csn_lexer.proofs.words.next_in_word.Goals.{else-joins_pieces-via-then-joins_pieces+else-starts_alphanumeric, else-joins_pieces-via-else-joins_pieces}
+use Rattle.csn_lexer.proofs.words.next_in_word.Goals.{else-joins_pieces-via-then-joins_pieces+else-starts_alphanumeric}
+use Rattle.csn_lexer.proofs.words.next_in_word.Goals.{else-joins_pieces-via-else-joins_pieces}
 
 pub returns-then-goes_on_in_word : goal.returns-then-goes_on_in_word
 returns-then-goes_on_in_word c =

@@ -11,7 +11,9 @@ pub loop-plan-preserved : goal.loop-plan-preserved
 loop-plan-preserved c =
     let more = pushed c.push.result _ _ _ c.push.ensures.items (sym c.is_err.ensures.value ∙ c.if-is_err.false) in
     rw more (
-      descs_push c.loop-plan.writers.items c.line_text.result c.args.plans.now c.loop-plan.plan-index c.plan-item.result c.loop-plan.invariant.0 (omega (arith, c.loop-plan-test.true)) c.plan-item.is c.line_text.ensures.desc,
+      descs_push c.loop-plan.writers.items c.line_text.result c.args.plans.now c.loop-plan.plan-index
+          c.plan-item.result c.loop-plan.invariant.0 (omega (arith, c.loop-plan-test.true))
+          c.plan-item.is c.line_text.ensures.desc,
       texts_push c.loop-plan.writers.items c.line_text.result c.loop-plan.invariant.1 c.line_text.ensures.form,
       fresh_push c.loop-plan.writers.items c.line_text.result c.loop-plan.invariant.2 c.line_text.ensures.reads,
     )

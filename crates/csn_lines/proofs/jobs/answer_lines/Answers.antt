@@ -4,7 +4,13 @@ use Rattle.csn_lines.proofs.Blames.{blames_none, blames_same}
 use Rattle.csn_lines.proofs.jobs.answer_lines.Goals as goal
 
 pub answer_all-requires : goal.answer_all-requires
-answer_all-requires g c = record { begin = c.requires.begin; line = c.requires.ready.line; pending = c.requires.ready.pending; refused = c.requires.ready.refused }
+answer_all-requires g c = record {
+  begin = c.requires.begin;
+  line = c.requires.ready.line;
+  pending =
+      c.requires.ready.pending;
+  refused = c.requires.ready.refused;
+}
 
 pub returns-in_err-answer_all-clause-ok : goal.returns-in_err-answer_all-clause-ok
 returns-in_err-answer_all-clause-ok g c = IfOk-from_err c.from_residual.result _ c.from_residual.ensures.0

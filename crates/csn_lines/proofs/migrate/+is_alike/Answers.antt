@@ -12,4 +12,5 @@ is_alike-requires t c =
 pub returns-after-loop-at : goal.returns-after-loop-at
 returns-after-loop-at t c =
     let whole : c.args.tree.now ≡ row (trees_of c.in-Row.rows) = sym c.tree.view_is ∙ ap shape_view c.in-Row.is in
-    λ yes. subst AreAlike (sym whole) (all_alike c.in-Row.rows c.loop-at.at c.loop-at.invariant (omega (arith, c.loop-at-test.false, c.len-at-end.ensures.len)))
+    λ yes. subst AreAlike (sym whole) (all_alike c.in-Row.rows c.loop-at.at c.loop-at.invariant
+    (omega (arith, c.loop-at-test.false, c.len-at-end.ensures.len)))

@@ -32,22 +32,31 @@ pub returns-in_err-extend_from_slice-in-Waiting-clause-ok : goal.returns-in_err-
 returns-in_err-extend_from_slice-in-Waiting-clause-ok c = IfOk-from_err c.from_residual.result _ c.from_residual.ensures.0
 
 pub returns-in_err-extend_from_slice-in-Waiting-clause-err : goal.returns-in_err-extend_from_slice-in-Waiting-clause-err
-returns-in_err-extend_from_slice-in-Waiting-clause-err c = OnErr-from c.from_residual.result ([], c.in_err-extend_from_slice-in-Waiting.ensures.items ∙ sym (append-nil _))
+returns-in_err-extend_from_slice-in-Waiting-clause-err c = OnErr-from c.from_residual.result
+    ([], c.in_err-extend_from_slice-in-Waiting.ensures.items ∙ sym (append-nil _))
 
 pub returns-in_err-push_number-in-Waiting-clause-ok : goal.returns-in_err-push_number-in-Waiting-clause-ok
-returns-in_err-push_number-in-Waiting-clause-ok c = IfOk-from_err c.from_residual-in_err-push_number-in-Waiting.result _ c.from_residual-in_err-push_number-in-Waiting.ensures.0
+returns-in_err-push_number-in-Waiting-clause-ok c = IfOk-from_err c.from_residual-in_err-push_number-in-Waiting.result
+    _ c.from_residual-in_err-push_number-in-Waiting.ensures.0
 
 pub returns-in_err-push_number-in-Waiting-clause-err : goal.returns-in_err-push_number-in-Waiting-clause-err
-returns-in_err-push_number-in-Waiting-clause-err c = OnErr-from c.from_residual-in_err-push_number-in-Waiting.result (codes "wait ", c.in_err-push_number-in-Waiting.ensures.err ∙ c.in_ok-extend_from_slice-in-Waiting.ensures.items)
+returns-in_err-push_number-in-Waiting-clause-err c = OnErr-from c.from_residual-in_err-push_number-in-Waiting.result
+    (codes "wait ", c.in_err-push_number-in-Waiting.ensures.err ∙ c.in_ok-extend_from_slice-in-Waiting.ensures.items)
 
 pub returns-in_err-extend_from_slice-in-Refused-clause-ok : goal.returns-in_err-extend_from_slice-in-Refused-clause-ok
-returns-in_err-extend_from_slice-in-Refused-clause-ok c = IfOk-from_err c.from_residual-in_err-extend_from_slice-in-Refused.result _ c.from_residual-in_err-extend_from_slice-in-Refused.ensures.0
+returns-in_err-extend_from_slice-in-Refused-clause-ok c =
+    IfOk-from_err c.from_residual-in_err-extend_from_slice-in-Refused.result _
+    c.from_residual-in_err-extend_from_slice-in-Refused.ensures.0
 
 pub returns-in_err-extend_from_slice-in-Refused-clause-err : goal.returns-in_err-extend_from_slice-in-Refused-clause-err
-returns-in_err-extend_from_slice-in-Refused-clause-err c = OnErr-from c.from_residual-in_err-extend_from_slice-in-Refused.result ([], c.in_err-extend_from_slice-in-Refused.ensures.items ∙ sym (append-nil _))
+returns-in_err-extend_from_slice-in-Refused-clause-err c =
+    OnErr-from c.from_residual-in_err-extend_from_slice-in-Refused.result
+    ([], c.in_err-extend_from_slice-in-Refused.ensures.items ∙ sym (append-nil _))
 
 pub returns-in_err-push_number-in-Refused-clause-ok : goal.returns-in_err-push_number-in-Refused-clause-ok
-returns-in_err-push_number-in-Refused-clause-ok c = IfOk-from_err c.from_residual-in_err-push_number-in-Refused.result _ c.from_residual-in_err-push_number-in-Refused.ensures.0
+returns-in_err-push_number-in-Refused-clause-ok c = IfOk-from_err c.from_residual-in_err-push_number-in-Refused.result
+    _ c.from_residual-in_err-push_number-in-Refused.ensures.0
 
 pub returns-in_err-push_number-in-Refused-clause-err : goal.returns-in_err-push_number-in-Refused-clause-err
-returns-in_err-push_number-in-Refused-clause-err c = OnErr-from c.from_residual-in_err-push_number-in-Refused.result (codes "bad ", c.in_err-push_number-in-Refused.ensures.err ∙ c.in_ok-extend_from_slice-in-Refused.ensures.items)
+returns-in_err-push_number-in-Refused-clause-err c = OnErr-from c.from_residual-in_err-push_number-in-Refused.result
+    (codes "bad ", c.in_err-push_number-in-Refused.ensures.err ∙ c.in_ok-extend_from_slice-in-Refused.ensures.items)

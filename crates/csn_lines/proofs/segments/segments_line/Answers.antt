@@ -28,7 +28,9 @@ returns-clause-ok c =
       (λ before joins. (
         before ++ octets_of c.in-Ok.bits ∷ [],
         given.joins before joins,
-        λ text rules reading is. joins_block c.in-Ok.bits c.in-Ok.ensures.ok (omega arith) (subst (λ j. AnswersJoined rules reading j h.0) (given.answer before joins) (h.2 text rules reading is)) refl,
+        λ text rules reading is. joins_block c.in-Ok.bits c.in-Ok.ensures.ok (omega arith)
+            (subst (λ j. AnswersJoined rules reading j h.0) (given.answer before joins) (h.2 text rules reading is))
+            refl,
       )),
       h.3,
     )) c.answer_joined.ensures.ok
@@ -37,7 +39,12 @@ pub returns-then-len-ne0-clause-ok : goal.returns-then-len-ne0-clause-ok
 returns-then-len-ne0-clause-ok c = (
   codes "bad 5",
   c.in_ok-extend_from_slice.ensures.items,
-  (λ before joins. (before, joins, λ text rules reading is. no_octets c.in-Ok.bits c.in-Ok.ensures.ok (rw c.len.ensures.count at c.if-len-ne0.true) refl refl)),
+  (λ before joins. (
+    before,
+    joins,
+    λ text rules reading is. no_octets c.in-Ok.bits c.in-Ok.ensures.ok
+        (rw c.len.ensures.count at c.if-len-ne0.true) refl refl,
+  )),
   refl,
 )
 
@@ -48,10 +55,12 @@ pub returns-in_err-answer_fault-in-Err-clause-err : goal.returns-in_err-answer_f
 returns-in_err-answer_fault-in-Err-clause-err c = OnErr-from c.from_residual.result c.in_err-answer_fault-in-Err.ensures.err
 
 pub returns-in_err-extend_from_slice-clause-ok : goal.returns-in_err-extend_from_slice-clause-ok
-returns-in_err-extend_from_slice-clause-ok c = IfOk-from_err c.from_residual-in_err-extend_from_slice.result _ c.from_residual-in_err-extend_from_slice.ensures.0
+returns-in_err-extend_from_slice-clause-ok c = IfOk-from_err c.from_residual-in_err-extend_from_slice.result _
+    c.from_residual-in_err-extend_from_slice.ensures.0
 
 pub returns-in_err-extend_from_slice-clause-err : goal.returns-in_err-extend_from_slice-clause-err
-returns-in_err-extend_from_slice-clause-err c = OnErr-from c.from_residual-in_err-extend_from_slice.result ([], c.in_err-extend_from_slice.ensures.items ∙ sym (append-nil _))
+returns-in_err-extend_from_slice-clause-err c = OnErr-from c.from_residual-in_err-extend_from_slice.result
+    ([], c.in_err-extend_from_slice.ensures.items ∙ sym (append-nil _))
 
 pub returns-clause-err : goal.returns-clause-err
 returns-clause-err c = c.answer_joined.ensures.err

@@ -21,7 +21,8 @@ returns-in_ok-answer_refusal-in-Refused-clause-ok c = λ line reads.
     let ended = rw c.in-Refused.is at c.in_ok-bits.ensures.ends line reads in
     let start : c.len-start.result ≡ length c.args.out.now.items = omega (arith, c.len-start.ensures, c.args.out.now.ok) in
     let same : c.truncate.new.self.items ≡ c.args.out.now.items =
-    cut_back c.args.out.now.items c.end.new.out.items c.truncate.new.self.items (codes "ok ") c.len-start.result (ended.4 ∙ c.in_ok-extend_from_slice.ensures.items) c.truncate.ensures.items start in
+    cut_back c.args.out.now.items c.end.new.out.items c.truncate.new.self.items (codes "ok ") c.len-start.result
+    (ended.4 ∙ c.in_ok-extend_from_slice.ensures.items) c.truncate.ensures.items start in
     let refusal = refusal_text c.in-Refused.place ended.0 in (
       refusal,
       c.in_ok-answer_refusal-in-Refused.ensures.ok ended.0 ended.2 ∙ ap (λ l. l ++ refusal) same,
@@ -34,7 +35,9 @@ returns-in_ok-answer_fault-in-Fault-clause-ok c = λ line reads.
     let ended = rw c.in-Fault.is at c.in_ok-bits.ensures.ends line reads in
     let start : c.len-start.result ≡ length c.args.out.now.items = omega (arith, c.len-start.ensures, c.args.out.now.ok) in
     let same : c.truncate-in-Fault.new.self.items ≡ c.args.out.now.items =
-    cut_back c.args.out.now.items c.end.new.out.items c.truncate-in-Fault.new.self.items (codes "ok ") c.len-start.result (ended.1 ∙ c.in_ok-extend_from_slice.ensures.items) c.truncate-in-Fault.ensures.items start in
+    cut_back c.args.out.now.items c.end.new.out.items c.truncate-in-Fault.new.self.items (codes "ok ")
+    c.len-start.result (ended.1 ∙ c.in_ok-extend_from_slice.ensures.items) c.truncate-in-Fault.ensures.items
+    start in
     let is : IsLineFault line c.into.result = (c.in-Fault.why, ended.0, c.into.ensures) in (
       fault_text c.into.result,
       c.in_ok-answer_fault-in-Fault.ensures.ok ∙ ap (λ l. l ++ fault_text c.into.result) same,
@@ -47,7 +50,8 @@ returns-in_err-answer_refusal-in-Refused-clause-err c = OnErr-from c.from_residu
     let ended = rw c.in-Refused.is at c.in_ok-bits.ensures.ends line reads in
     let start : c.len-start.result ≡ length c.args.out.now.items = omega (arith, c.len-start.ensures, c.args.out.now.ok) in
     let same : c.truncate.new.self.items ≡ c.args.out.now.items =
-    cut_back c.args.out.now.items c.end.new.out.items c.truncate.new.self.items (codes "ok ") c.len-start.result (ended.4 ∙ c.in_ok-extend_from_slice.ensures.items) c.truncate.ensures.items start in
+    cut_back c.args.out.now.items c.end.new.out.items c.truncate.new.self.items (codes "ok ") c.len-start.result
+    (ended.4 ∙ c.in_ok-extend_from_slice.ensures.items) c.truncate.ensures.items start in
     let (tail, is) = c.in_err-answer_refusal-in-Refused.ensures.err in (tail, is ∙ ap (λ l. l ++ tail) same))
 
 pub returns-in_err-answer_fault-in-Fault-clause-err : goal.returns-in_err-answer_fault-in-Fault-clause-err
@@ -55,8 +59,11 @@ returns-in_err-answer_fault-in-Fault-clause-err c = OnErr-from c.from_residual-i
     let ended = rw c.in-Fault.is at c.in_ok-bits.ensures.ends line reads in
     let start : c.len-start.result ≡ length c.args.out.now.items = omega (arith, c.len-start.ensures, c.args.out.now.ok) in
     let same : c.truncate-in-Fault.new.self.items ≡ c.args.out.now.items =
-    cut_back c.args.out.now.items c.end.new.out.items c.truncate-in-Fault.new.self.items (codes "ok ") c.len-start.result (ended.1 ∙ c.in_ok-extend_from_slice.ensures.items) c.truncate-in-Fault.ensures.items start in
+    cut_back c.args.out.now.items c.end.new.out.items c.truncate-in-Fault.new.self.items (codes "ok ")
+    c.len-start.result (ended.1 ∙ c.in_ok-extend_from_slice.ensures.items) c.truncate-in-Fault.ensures.items
+    start in
     let (tail, is) = c.in_err-answer_fault-in-Fault.ensures.err in (tail, is ∙ ap (λ l. l ++ tail) same))
 
 pub returns-in_err-extend_from_slice-clause-err : goal.returns-in_err-extend_from_slice-clause-err
-returns-in_err-extend_from_slice-clause-err c = OnErr-from c.from_residual.result (λ line reads. ([], c.in_err-extend_from_slice.ensures.items ∙ sym (append-nil _)))
+returns-in_err-extend_from_slice-clause-err c = OnErr-from c.from_residual.result
+    (λ line reads. ([], c.in_err-extend_from_slice.ensures.items ∙ sym (append-nil _)))

@@ -14,4 +14,5 @@ pub returns-in_err-extend_from_slice-clause-err : goal.returns-in_err-extend_fro
 returns-in_err-extend_from_slice-clause-err c = OnErr-from c.from_residual.result ([], c.in_err-extend_from_slice.ensures.items ∙ sym (append-nil _))
 
 pub returns-clause-err : goal.returns-clause-err
-returns-clause-err c = not_put c.extend_from_slice-2.result _ _ _ _ c.extend_from_slice-2.ensures.items (λ same. (codes "ok ", same ∙ c.in_ok-extend_from_slice.ensures.items))
+returns-clause-err c = not_put c.extend_from_slice-2.result _ _ _ _ c.extend_from_slice-2.ensures.items
+    (λ same. (codes "ok ", same ∙ c.in_ok-extend_from_slice.ensures.items))

@@ -26,4 +26,5 @@ pub returns-in_err-answer_block-in-Ok-clause-err : goal.returns-in_err-answer_bl
 returns-in_err-answer_block-in-Ok-clause-err g c = OnErr-from c.from_residual.result c.in_err-answer_block-in-Ok.ensures.err
 
 pub returns-in_err-answer_no_block-in-Err-clause-err : goal.returns-in_err-answer_no_block-in-Err-clause-err
-returns-in_err-answer_no_block-in-Err-clause-err g c = OnErr-from c.from_residual-in_err-answer_no_block-in-Err.result c.in_err-answer_no_block-in-Err.ensures.err
+returns-in_err-answer_no_block-in-Err-clause-err g c = OnErr-from c.from_residual-in_err-answer_no_block-in-Err.result
+    c.in_err-answer_no_block-in-Err.ensures.err

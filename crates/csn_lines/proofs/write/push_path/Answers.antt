@@ -8,7 +8,8 @@ use Rattle.csn_lines.proofs.ProgressLemmas.{OnErr-from}
 use Rattle.csn_lines.proofs.write.push_path.Goals as goal
 
 pub loop-at-preserved : goal.loop-at-preserved
-loop-at-preserved c = step_written _ _ _ _ c.args.path.now c.loop-at.at c.get.result c.get.ensures c.loop-at.invariant c.in_ok-push-2.ensures.items c.in_ok-push_number.ensures.ok
+loop-at-preserved c = step_written _ _ _ _ c.args.path.now c.loop-at.at c.get.result c.get.ensures c.loop-at.invariant
+    c.in_ok-push-2.ensures.items c.in_ok-push_number.ensures.ok
 
 pub returns-in_err-push_number-clause-err : goal.returns-in_err-push_number-clause-err
 returns-in_err-push_number-clause-err c =

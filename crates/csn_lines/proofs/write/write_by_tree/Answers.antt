@@ -13,7 +13,9 @@ returns-clause-ok c =
       told.1 ∙ ap (λ l. l ++ told.0) found.1,
       λ file rules name reading is. elim told.2 [
         | inl has ↦ writes_block c.in-Some.tree has.0 found.0 has.1.within (string_of c.known.ensures file rules name reading _ is _ _ has.1.means) has.2
-        | inr misses ↦ writes_misfit c.in-Some.tree c.args.plan.now misses.0.path misses.0.why found.0 (no_block_of c.known.ensures file rules name reading _ is c.in-Some.tree misses.1.1) is.resolved misses.1.0 misses.2
+        | inr misses ↦ writes_misfit c.in-Some.tree c.args.plan.now misses.0.path misses.0.why found.0
+            (no_block_of c.known.ensures file rules name reading _ is c.in-Some.tree misses.1.1)
+            is.resolved misses.1.0 misses.2
       ],
       told.3,
     )) c.answer_tree.ensures.ok

@@ -12,7 +12,9 @@ returns-clause-ok c =
       codes "ok " ++ written c.in-Some.bits,
       c.in_ok-answer_block.ensures.ok,
       λ file rules name reading is.
-          writes_block found.1.0 c.in-Some.bits (read_along c.known.ensures file rules name reading _ is c.args.form c.args.line.now c.in-Some.bits found.1.0 found.0 found.1.1 block) block.within
+          writes_block found.1.0 c.in-Some.bits
+          (read_along c.known.ensures file rules name reading _ is c.args.form c.args.line.now c.in-Some.bits
+          found.1.0 found.0 found.1.1 block) block.within
           (string_of c.known.ensures file rules name reading _ is _ _ block.means) refl,
       refl,
     )

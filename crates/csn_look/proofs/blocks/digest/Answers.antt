@@ -4,7 +4,8 @@ use Rattle.csn_look.proofs.blocks.digest.Goals as goal
 
 pub loop-at-preserved : goal.loop-at-preserved
 loop-at-preserved c =
-    digest_more c.args.table.now c.loop-at.digest c.loop-at.at c.word.result (omega (arith, c.requires, c.loop-at-test.true)) c.word.ensures c.loop-at.invariant
+    digest_more c.args.table.now c.loop-at.digest c.loop-at.at c.word.result
+    (omega (arith, c.requires, c.loop-at-test.true)) c.word.ensures c.loop-at.invariant
 
 pub returns : goal.returns
 returns c = digest_all c.args.table.now c.loop-at.digest c.loop-at.at (omega (arith, c.requires, c.loop-at-test.false)) c.loop-at.invariant

@@ -22,10 +22,16 @@ pub loop-at-preserved : goal.loop-at-preserved
 loop-at-preserved c =
     let P : List ℕ → Type 0 = λ l. AreJoined c.args.marks.now c.args.others.now l (4 * (c.loop-at.at + 1)) in
     elim c.if-ne.branch [
-      | then-ne w ↦ subst P (sym w.marks-is) (block_joined c.args.marks.now c.args.others.now c.loop-at.marks w.join_block.new.marks c.block-block.result c.loop-at.at c.loop-at.invariant c.block-block.ensures w.join_block.ensures.inside w.join_block.ensures.outside)
+      | then-ne w ↦ subst P (sym w.marks-is)
+          (block_joined c.args.marks.now c.args.others.now c.loop-at.marks w.join_block.new.marks c.block-block.result
+          c.loop-at.at c.loop-at.invariant c.block-block.ensures w.join_block.ensures.inside
+          w.join_block.ensures.outside)
       | else-ne w ↦
-          let none = (slice_eq-Decides Decides-eqb c.block-block.result blank (pointwise nat_eq c.block-block.result blank) refl).0 (not_false (pointwise nat_eq c.block-block.result blank) (sym c.ne.ensures ∙ w.if-ne.false)) in
-          subst P (sym w.marks-is) (blank_joined c.args.marks.now c.args.others.now c.loop-at.marks c.loop-at.at c.loop-at.invariant (sym c.block-block.ensures ∙ none))
+          let none = (slice_eq-Decides Decides-eqb c.block-block.result blank
+          (pointwise nat_eq c.block-block.result blank) refl).0
+          (not_false (pointwise nat_eq c.block-block.result blank) (sym c.ne.ensures ∙ w.if-ne.false)) in
+          subst P (sym w.marks-is) (blank_joined c.args.marks.now c.args.others.now c.loop-at.marks c.loop-at.at
+          c.loop-at.invariant (sym c.block-block.ensures ∙ none))
     ]
   where
     not_false : (b : Bool) → not b ≡ false → b ≡ true

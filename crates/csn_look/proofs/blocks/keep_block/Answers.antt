@@ -25,7 +25,8 @@ overflow_add-result c = omega arith
 
 pub returns-then-eq : goal.returns-then-eq
 returns-then-eq c =
-    let told = (slice_eq-Decides Decides-eqb c.block_of.result c.args.block (pointwise nat_eq c.block_of.result c.args.block) refl).0 (sym c.eq.ensures ∙ c.if-eq.true) in
+    let told = (slice_eq-Decides Decides-eqb c.block_of.result c.args.block
+    (pointwise nat_eq c.block_of.result c.args.block) refl).0 (sym c.eq.ensures ∙ c.if-eq.true) in
     record {
       more = ([], sym (append-nil c.args.blocks.now.items));
       size = c.requires.size;
@@ -36,7 +37,8 @@ returns-then-eq c =
 
 pub returns-then-eq-2 : goal.returns-then-eq-2
 returns-then-eq-2 c =
-    let told = (slice_eq-Decides Decides-eqb c.block_of-2.result c.args.block (pointwise nat_eq c.block_of-2.result c.args.block) refl).0 (sym c.eq-2.ensures ∙ c.if-eq-2.true) in
+    let told = (slice_eq-Decides Decides-eqb c.block_of-2.result c.args.block
+    (pointwise nat_eq c.block_of-2.result c.args.block) refl).0 (sym c.eq-2.ensures ∙ c.if-eq-2.true) in
     record {
       more = ([], sym (append-nil c.args.blocks.now.items));
       size = c.requires.size;

@@ -7,7 +7,8 @@ block_of-block-requires c = block_within c.args.index.now c.args.blocks.now c.lo
 
 pub loop-at-preserved : goal.loop-at-preserved
 loop-at-preserved c =
-    laid_more c.args.index.now c.args.blocks.now c.loop-at.marks.items c.extend_from_slice.new.self.items c.block_of-block.result c.loop-at.at c.loop-at-test.true
+    laid_more c.args.index.now c.args.blocks.now c.loop-at.marks.items c.extend_from_slice.new.self.items
+    c.block_of-block.result c.loop-at.at c.loop-at-test.true
     c.loop-at.invariant c.block_of-block.ensures c.in_ok-extend_from_slice.ensures.items
 
 pub returns : goal.returns

@@ -17,7 +17,16 @@ loop-at-init c =
       (λ i beside. refl),
       (λ d k look says. (
         subst (λ (ps : List ℕ). PartsSetsAre d ps c.no_bits-rest.result) (sym (last_none parts end c.len-at.ensures.len))
-            (no_parts d c.no_bits-rest.result (record { nullable = none.nullable; whole_empty = none.whole_empty; cut_empty = none.cut_empty; lengths = none.lengths; zero = none.zero; one = none.one })),
+            (no_parts d c.no_bits-rest.result
+            (record {
+              nullable = none.nullable;
+              whole_empty = none.whole_empty;
+              cut_empty =
+                  none.cut_empty;
+              lengths = none.lengths;
+              zero = none.zero;
+              one = none.one;
+            })),
         put_last parts end c.args.table.now (λ j p. PartFollow d (in_order c.args.ends_early parts) k (drop (suc j) parts) p) c.len-at.ensures.len,
       )),
     )
@@ -34,11 +43,22 @@ loop-at-preserved c =
       (λ d k look says.
           let h = c.loop-at.invariant.1 d k look says in
           let Q : ℕ → ℕ → ℕ → Option ℕ → Type 0 = λ j p. PartFollow d (in_order c.args.ends_early parts) k (drop (suc j) parts) p in
-          let here = says_in_order d c.args.ends_early parts (drop at parts) k part c.loop-at.rest _ c.args.above f h.0 refl refl refl says c.ahead_of.ensures in (
+          let here = says_in_order d c.args.ends_early parts (drop at parts) k part c.loop-at.rest _ c.args.above f
+          h.0 refl refl refl says c.ahead_of.ensures in (
             subst (λ (ps : List ℕ). PartsSetsAre d ps c.then-rest.result) (sym (last_more parts at part c.loop-at-test.true c.get-part.ensures))
-                (more_parts d part (drop at parts) c.of.result c.loop-at.rest c.then-rest.result (known_sets d c.args.look.now.sets part c.of.result look c.of.ensures) h.0
-                (record { nullable = then.nullable; whole_empty = then.whole_empty; cut_empty = then.cut_empty; lengths = then.lengths; zero = then.zero; one = then.one })),
-            put_before parts at part c.loop-at.table f Q c.requires.once c.loop-at-test.true c.get-part.ensures (omega (arith, c.requires.below (at - 1) part c.get-part.ensures))
+                (more_parts d part (drop at parts) c.of.result c.loop-at.rest c.then-rest.result
+                (known_sets d c.args.look.now.sets part c.of.result look c.of.ensures) h.0
+                (record {
+                  nullable = then.nullable;
+                  whole_empty = then.whole_empty;
+                  cut_empty =
+                      then.cut_empty;
+                  lengths = then.lengths;
+                  zero = then.zero;
+                  one = then.one;
+                })),
+            put_before parts at part c.loop-at.table f Q c.requires.once c.loop-at-test.true c.get-part.ensures
+                (omega (arith, c.requires.below (at - 1) part c.get-part.ensures))
                 (subst (λ (n : ℕ). SaysFollow f (PartFollow d (in_order c.args.ends_early parts) k (drop n parts) part)) next here) h.1,
           )),
     )

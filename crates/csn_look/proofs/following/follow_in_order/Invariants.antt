@@ -12,4 +12,5 @@ abbrev pub invariant-loop-at : goal.invariant-loop-at
 invariant-loop-at l =
     KeptBeside l.parts l.initial.table l.table
     × ((d : DescV) (k : ℕ) → IsLookOf d l.look.sets → FollowsAre d k l.above
-    → PartsSetsAre d (drop l.at l.parts) l.rest × PutFrom l.parts l.at l.table (λ j p. PartFollow d (in_order l.ends_early l.parts) k (drop (suc j) l.parts) p))
+    → PartsSetsAre d (drop l.at l.parts) l.rest × PutFrom l.parts l.at l.table
+    (λ j p. PartFollow d (in_order l.ends_early l.parts) k (drop (suc j) l.parts) p))

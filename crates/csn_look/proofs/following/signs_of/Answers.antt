@@ -14,7 +14,8 @@ loop-octet-preserved c =
     let z = c.has.result in
     let o = c.has-in-loop-octet.result in
     let e = c.has-in-loop-octet-2.result in
-    let put = put_signs z o e c.empty.result c.with_if.result c.with_if-in-loop-octet.result third c.empty.ensures c.with_if.ensures c.with_if-in-loop-octet.ensures c.with_if-in-loop-octet-2.ensures in
+    let put = put_signs z o e c.empty.result c.with_if.result c.with_if-in-loop-octet.result third c.empty.ensures
+    c.with_if.ensures c.with_if-in-loop-octet.ensures c.with_if-in-loop-octet-2.ensures in
     let is : third ≡ signs_at f k =
     put
     ∙ ap (λ (b : Bool). let s : SignsV = record { zero = b; one = o; end = e } in s) c.has.ensures

@@ -9,7 +9,8 @@ pub returns-clause-all : goal.returns-clause-all
 returns-clause-all c = λ yes at from below.
     let same : c.next_sought.result ≡ c.args.end = grind (arith, nat_tests, yes) in
     as_wanted c.args.keys c.args.table.now at
-    (subst (λ (s : Sought). is_sought s c.args.table.now at ≡ false) c.sought_against.ensures (c.next_sought.ensures.none at from (omega (arith, below, same))))
+    (subst (λ (s : Sought). is_sought s c.args.table.now at ≡ false) c.sought_against.ensures
+    (c.next_sought.ensures.none at from (omega (arith, below, same))))
 
 pub returns-clause-other : goal.returns-clause-other
 returns-clause-other c = λ no.
@@ -18,5 +19,6 @@ returns-clause-other c = λ no.
       found,
       c.next_sought.ensures.low,
       less,
-      not_wanted c.args.keys c.args.table.now found (subst (λ (s : Sought). is_sought s c.args.table.now found ≡ true) c.sought_against.ensures (c.next_sought.ensures.here less)),
+      not_wanted c.args.keys c.args.table.now found (subst (λ (s : Sought). is_sought s c.args.table.now found ≡ true)
+          c.sought_against.ensures (c.next_sought.ensures.here less)),
     )

@@ -17,8 +17,10 @@ returns-then-not-is_marked-clause-none c = λ word is here size.
     let more = c.loop-more.more in
     let room : c.args.len + more ≤ 12 = omega (arith, c.loop-more-test.true) in
     let place = key_place c.args.place c.args.len more c.requires.within room in
-    no_keys_on c.args.table.now word c.args.place more (c.args.place * 2 ^ more % 2 ^ 64) c.args.len c.requires.table is here size place.0 room (sym c.is_marked.ensures ∙ c.if-not-is_marked.true)
-    (no_keys_next c.args.table.now c.args.place more (c.args.place * 2 ^ more % 2 ^ 64) c.loop-more.invariant place.0 (sym c.is_key.ensures ∙ c.if-is_key.false))
+    no_keys_on c.args.table.now word c.args.place more (c.args.place * 2 ^ more % 2 ^ 64)
+    c.args.len c.requires.table is here size place.0 room (sym c.is_marked.ensures ∙ c.if-not-is_marked.true)
+    (no_keys_next c.args.table.now c.args.place more (c.args.place * 2 ^ more % 2 ^ 64) c.loop-more.invariant place.0
+    (sym c.is_key.ensures ∙ c.if-is_key.false))
 
 pub loop-more-preserved : goal.loop-more-preserved
 loop-more-preserved c =

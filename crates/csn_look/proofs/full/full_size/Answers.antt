@@ -35,8 +35,10 @@ returns-else-are_all-clause-none c = λ word is here size other short at.
     let P : ℕ → Type 0 = λ first. IsOther c.args.table.now true first (c.args.place * 2 ^ more + 2 ^ more) in
     let Q : ℕ → Type 0 = λ end. IsOther c.args.table.now true (c.args.place * 2 ^ more % 2 ^ 64) end in
     elim c.else-are_all.branch [
-      | else-are_all-via-then-are_all+else-has_no_shorter w ↦ some_shorter c.args.table.now c.args.place more full (w.has_no_shorter.ensures.some w.if-has_no_shorter.false)
-      | else-are_all-via-else-are_all w ↦ not_all c.args.table.now c.args.place more full (subst P level.first_is (subst Q level.end_is (c.are_all.ensures.other w.if-are_all.false)))
+      | else-are_all-via-then-are_all+else-has_no_shorter w ↦ some_shorter c.args.table.now c.args.place more full
+          (w.has_no_shorter.ensures.some w.if-has_no_shorter.false)
+      | else-are_all-via-else-are_all w ↦ not_all c.args.table.now c.args.place more full
+          (subst P level.first_is (subst Q level.end_is (c.are_all.ensures.other w.if-are_all.false)))
     ]
 
 pub returns-in_default-clause-none : goal.returns-in_default-clause-none

@@ -10,7 +10,8 @@ pub loop-at-preserved : goal.loop-at-preserved
 loop-at-preserved g c =
     let parts = c.args.parts.now in (
       kept_more parts c.args.table.now c.loop-at.table c.loop-at.at c.get.result c.args.one c.get.ensures c.loop-at.invariant.0,
-      same_more parts c.loop-at.at c.get.result c.loop-at.table c.args.one c.get.ensures (omega (arith, c.requires.below c.loop-at.at c.get.result c.get.ensures)) c.loop-at.invariant.1,
+      same_more parts c.loop-at.at c.get.result c.loop-at.table c.args.one c.get.ensures
+          (omega (arith, c.requires.below c.loop-at.at c.get.result c.get.ensures)) c.loop-at.invariant.1,
     )
 
 pub returns-clause-parts : goal.returns-clause-parts

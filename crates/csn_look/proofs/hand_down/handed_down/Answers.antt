@@ -10,7 +10,8 @@ pub loop-k-init : goal.loop-k-init
 loop-k-init g c =
     let d = c.args.desc.now in
     let is = c.len-count.ensures.description in
-    handed_none (λ i a. g.T.HandDown.is_right d i a) d is c.in_ok-table.table.items c.args.root (c.in_ok-table.ensures ∙ c.len-count.ensures.len) (c.requires.root is)
+    handed_none (λ i a. g.T.HandDown.is_right d i a) d is c.in_ok-table.table.items c.args.root
+    (c.in_ok-table.ensures ∙ c.len-count.ensures.len) (c.requires.root is)
 
 pub hand_down-requires : goal.hand_down-requires
 hand_down-requires g c =
@@ -44,14 +45,16 @@ loop-k-preserved g c =
     let nodes_inside : k < length d.nodes = omega (arith, c.loop-k-test.true, c.len-count.ensures.len) in
     let right = handed_here (λ i a. g.T.HandDown.is_right d i a) d is k items above nodes_inside c.loop-k.invariant here in
     subst (λ l. Handed (λ i a. g.T.HandDown.is_right d i a) d (k + 1) l) (sym (written_back new items c.loop-k.table.len size len))
-    (handed_more (λ i a. g.T.HandDown.is_right d i a) d is k node items new c.node.ensures size c.loop-k.invariant (c.hand_down.ensures.parts d k is c.requires.known c.node.ensures right) others)
+    (handed_more (λ i a. g.T.HandDown.is_right d i a) d is k node items new c.node.ensures size c.loop-k.invariant
+    (c.hand_down.ensures.parts d k is c.requires.known c.node.ensures right) others)
 
 pub returns : goal.returns
 returns g c =
     let d = c.args.desc.now in
     record {
       same = c.loop-k.invariant.same;
-      right = handed_end (λ i a. g.T.HandDown.is_right d i a) d c.len-count.ensures.description c.loop-k.k c.loop-k.table.items (omega (arith, c.loop-k-test.false, c.len-count.ensures.len)) c.loop-k.invariant;
+      right = handed_end (λ i a. g.T.HandDown.is_right d i a) d c.len-count.ensures.description c.loop-k.k
+          c.loop-k.table.items (omega (arith, c.loop-k-test.false, c.len-count.ensures.len)) c.loop-k.invariant;
     }
 
 pub index-above-requires : goal.index-above-requires

@@ -11,7 +11,8 @@ pub loop-at-preserved : goal.loop-at-preserved
 loop-at-preserved c = (
   omega arith,
   omega arith,
-  λ word is here. raised_next c.set_mark.new.marks c.loop-at.marks c.set_mark-in-loop-at.new.marks word c.loop-at.at is c.loop-at-test.true c.set_mark-in-loop-at.ensures (c.loop-at.invariant.2 word is here),
+  λ word is here. raised_next c.set_mark.new.marks c.loop-at.marks c.set_mark-in-loop-at.new.marks word c.loop-at.at
+      is c.loop-at-test.true c.set_mark-in-loop-at.ensures (c.loop-at.invariant.2 word is here),
 )
 
 pub returns-then-is_marked : goal.returns-then-is_marked

@@ -5,7 +5,9 @@ use Rattle.csn_look.proofs.Tables.Products.{room_after, after_none, after_skip, 
 use Rattle.csn_look.proofs.key_products.add_after_wholes.Goals as goal
 
 -- marks between two places, by the numbers that the words write
-unmarked : (first : List ℕ) (words from upto number : ℕ) → words + number ≡ from → ((at : ℕ) → from ≤ at → at < upto → is_marked first at ≡ false) → (k : ℕ) → number ≤ k → k < upto - words → is_marked first (words + k) ≡ false
+unmarked : (first : List ℕ) (words from upto number : ℕ)
+    → words + number ≡ from → ((at : ℕ) → from ≤ at → at < upto → is_marked first at ≡ false) → (k : ℕ)
+    → number ≤ k → k < upto - words → is_marked first (words + k) ≡ false
 unmarked first words from upto number is none k low high = none (words + k) (omega (arith, is)) (omega arith)
 
 pub loop-at-init : goal.loop-at-init

@@ -8,9 +8,11 @@ copy_marks-requires-clause-to c = omega (arith, c.key_mark.ensures, key_mark-fir
 
 pub returns : goal.returns
 returns c = λ first size is here power short.
-    behind_all c.args.rest.now c.args.plane first size c.args.whole c.args.marks.now c.copy_marks.new.marks c.args.words (c.key_mark.result + c.args.front * c.args.words) is power short
+    behind_all c.args.rest.now c.args.plane first size c.args.whole c.args.marks.now c.copy_marks.new.marks
+    c.args.words (c.key_mark.result + c.args.front * c.args.words) is power short
     (rw here c.requires.room) (rw (c.key_mark.ensures, here) refl) c.copy_marks.ensures
 
 pub returns-then-sizes-words-eq0 : goal.returns-then-sizes-words-eq0
 returns-then-sizes-words-eq0 c = λ first size is here power short.
-    none_behind c.args.rest.now first c.args.marks.now c.args.plane c.args.sizes size c.args.words c.args.whole c.requires.sizes c.if-sizes-words-eq0.true power (omega (arith, short))
+    none_behind c.args.rest.now first c.args.marks.now c.args.plane c.args.sizes size c.args.words c.args.whole
+    c.requires.sizes c.if-sizes-words-eq0.true power (omega (arith, short))

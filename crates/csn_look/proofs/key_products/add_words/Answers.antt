@@ -10,7 +10,8 @@ loop-number-init c = λ size power few. of_size_none size c.args.whole c.args.ma
 
 pub loop-number-preserved : goal.loop-number-preserved
 loop-number-preserved c = λ size power few.
-    of_size_next size c.args.whole c.args.marks.now c.loop-number.marks c.set_mark.new.marks c.args.words c.loop-number.number few power c.loop-number-test.true
+    of_size_next size c.args.whole c.args.marks.now c.loop-number.marks c.set_mark.new.marks c.args.words
+    c.loop-number.number few power c.loop-number-test.true
     (λ n. c.set_mark.ensures n ∙ ap (λ m. nat_eq n m || is_marked c.loop-number.marks n) c.key_mark.ensures) (c.loop-number.invariant size power few)
 
 pub returns : goal.returns

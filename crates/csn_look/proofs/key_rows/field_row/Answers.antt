@@ -35,5 +35,6 @@ returns-in-Counted c = λ d.
     (λ row h.
     let Q : Count → Type 0 = λ k. Makes old new row (NodeKeys d 12 (Field unit k)) in
     subst Q (sym c.in-Counted.is)
-    (makes_as old new row empty (NodeKeys d 12 (Field unit count)) h (λ o word mark low is. counted_field d o word mark unit c.in-Counted.m c.in-Counted.field c.in-Counted.c)))
+    (makes_as old new row empty (NodeKeys d 12 (Field unit count)) h
+    (λ o word mark low is. counted_field d o word mark unit c.in-Counted.m c.in-Counted.field c.in-Counted.c)))
     c.empty_row.ensures

@@ -19,8 +19,11 @@ loop-octet-preserved c = λ d.
     row_next c.args.tables.now c.loop-octet.tables new c.loop-octet.row octet at keys c.loop-octet-test.true (c.loop-octet.invariant d)
     (record {
       more = c.in_ok-row.ensures.more;
-      table = has_leaf new at P (keys octet) (λ x mark is. lits_keys d run octet c.len.result word whole c.literal_word.ensures c.len.ensures.len refl x mark) c.in_ok-row.ensures.kept;
+      table = has_leaf new at P (keys octet)
+          (λ x mark is. lits_keys d run octet c.len.result word whole c.literal_word.ensures c.len.ensures.len refl x
+          mark) c.in_ok-row.ensures.kept;
     })
 
 pub returns : goal.returns
-returns c = λ d. row_all c.args.tables.now c.loop-octet.tables c.loop-octet.row c.loop-octet.octet (NodeKeys d 12 (Lits c.args.run.now)) c.loop-octet-test.false (c.loop-octet.invariant d)
+returns c = λ d. row_all c.args.tables.now c.loop-octet.tables c.loop-octet.row c.loop-octet.octet
+    (NodeKeys d 12 (Lits c.args.run.now)) c.loop-octet-test.false (c.loop-octet.invariant d)

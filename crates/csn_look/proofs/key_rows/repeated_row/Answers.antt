@@ -40,7 +40,8 @@ pub loop-done-preserved : goal.loop-done-preserved
 loop-done-preserved c =
     let new = c.row_after.new.tables in
     let more = c.in_ok-more.more in
-    let next = one_turn_more c.args.tables.now c.loop-done.tables new c.args.once.now c.loop-done.row more c.loop-done.done c.loop-done.invariant.more c.loop-done.invariant.times c.in_ok-more.ensures in
+    let next = one_turn_more c.args.tables.now c.loop-done.tables new c.args.once.now c.loop-done.row more
+    c.loop-done.done c.loop-done.invariant.more c.loop-done.invariant.times c.in_ok-more.ensures in
     record {
       more = next.0;
       within = row_tables new more _ c.in_ok-more.ensures.has;
@@ -57,7 +58,8 @@ returns-then-eq c = λ d i one.
     let row = c.loop-done.row in
     let more = c.in_ok-more.more in
     let done = c.loop-done.done in
-    let next = one_turn_more c.args.tables.now mid new c.args.once.now row more done c.loop-done.invariant.more c.loop-done.invariant.times c.in_ok-more.ensures in
+    let next = one_turn_more c.args.tables.now mid new c.args.once.now row more done c.loop-done.invariant.more
+    c.loop-done.invariant.times c.in_ok-more.ensures in
     let these = row_stays mid new row (TimesKeys d 12 done i) c.in_ok-more.ensures.more (c.loop-done.invariant.times d i one) in
     let P : List ℕ → Type 0 = λ l. HasRow new l (TimesKeys d 12 (suc done) i) in
     let same : more ≡ row = (slice_eq-Decides Decides-eqb more row c.eq.result c.eq.ensures).0 c.if-eq.true in

@@ -22,6 +22,7 @@ loop-i-preserved c =
     let row = c.in_ok-row.row in
     let new = c.node-in-loop-i.new.tables in (
       length-set items at row ∙ c.loop-i.invariant.0,
-      rowed_more d c.loop-i.tables new items at row c.loop-i.invariant.0 c.in_ok-row.ensures.more (node_row d new row at c.node.result.now c.node.ensures c.in_ok-row.ensures.has)
+      rowed_more d c.loop-i.tables new items at row c.loop-i.invariant.0 c.in_ok-row.ensures.more
+          (node_row d new row at c.node.result.now c.node.ensures c.in_ok-row.ensures.has)
           (λ j low high. c.loop-i.invariant.1 j (omega (arith, low)) high),
     )

@@ -34,7 +34,8 @@ returns-then-is_marked t c = λ word is here many.
     if_ok_then c.list_keys-then-is_marked.result
     (c.list_keys-then-is_marked.new.keys.items ≡ c.list_keys.new.keys.items ++ keys_from c.args.marks.now (12 - (c.args.size + 1)) (word ++ 1 ∷ []))
     (c.list_keys-then-is_marked.new.keys.items ≡ c.args.keys.now.items ++ keys_from c.args.marks.now (12 - c.args.size) word)
-    (λ last. listed_more c.args.marks.now word c.args.size c.args.keys.now.items c.list_word.new.keys.items c.list_keys.new.keys.items c.list_keys-then-is_marked.new.keys.items
+    (λ last. listed_more c.args.marks.now word c.args.size c.args.keys.now.items c.list_word.new.keys.items
+    c.list_keys.new.keys.items c.list_keys-then-is_marked.new.keys.items
     small test (c.in_ok-list_word.ensures word is here)
     (c.in_ok-list_keys.ensures (word ++ 0 ∷ []) (word_longer word 0 c.args.size (omega arith) many small is) zero_place zero_many) last)
     (c.list_keys-then-is_marked.ensures (word ++ 1 ∷ []) (word_longer word 1 c.args.size (omega arith) many small is) one_place one_many)

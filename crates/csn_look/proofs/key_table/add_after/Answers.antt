@@ -15,7 +15,9 @@ loop-size-preserved c =
     let rests = λ (size : ℕ). get_or c.args.tables.now (get_or c.args.rests.now (size % 8) 0) [] in
     let low : c.loop-size.size % 8 < 8 = omega arith in
     let there = c.requires.known (c.loop-size.size % 8) low in
-    let read : c.index-tables-rests.result ≡ rests c.loop-size.size = get_or_read c.args.tables.now (get_or c.args.rests.now (c.loop-size.size % 8) 0) c.index-tables-rests.result there c.index-tables-rests.is [] in
+    let read : c.index-tables-rests.result ≡ rests c.loop-size.size =
+    get_or_read c.args.tables.now (get_or c.args.rests.now (c.loop-size.size % 8) 0)
+    c.index-tables-rests.result there c.index-tables-rests.is [] in
     let P : List ℕ → Type 0 = IsKeyTable in
     let Q : List ℕ → Type 0 = λ rest. Gains c.loop-size.marks c.add_after_size.new.marks (AtSize c.args.first.now rest c.loop-size.size) in
     below_next c.args.first.now rests c.loop-size.size c.args.marks.now c.loop-size.marks c.add_after_size.new.marks c.loop-size.invariant

@@ -12,7 +12,9 @@ pub returns-clause-whole : goal.returns-clause-whole
 returns-clause-whole c = λ d most i o v word h. key_meant d most o (o % 8) v refl refl h
 
 pub returns-clause-followed : goal.returns-clause-followed
-returns-clause-followed c = λ d most seen round i o v b rest mark is_formed values h. c.prefixes_are_followed.ensures d i o v b rest (key_followed d most c.prefixes_are_followed.ensures c.empty_bits_are_followed.ensures.node c.known.ensures.there o (o % 8) v refl values is_formed h)
+returns-clause-followed c = λ d most seen round i o v b rest mark is_formed values h. c.prefixes_are_followed.ensures
+    d i o v b rest (key_followed d most c.prefixes_are_followed.ensures c.empty_bits_are_followed.ensures.node
+    c.known.ensures.there o (o % 8) v refl values is_formed h)
 
 pub returns-clause-start : goal.returns-clause-start
 returns-clause-start c = λ d most i o bit rest mark is h. key_start d most (shape_of c.known.ensures d is) o (o % 8) bit rest refl refl h

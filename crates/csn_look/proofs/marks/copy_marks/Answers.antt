@@ -15,7 +15,8 @@ loop-done-preserved c =
     let few = c.copy_run-done.ensures.few in
     record {
       within = omega arith;
-      copied = copied_more c.args.marks.now c.loop-done.marks c.copy_run-done.new.marks c.args.others.now c.args.to c.args.from c.loop-done.done c.copy_run-done.result before.copied c.copy_run-done.ensures.copied;
+      copied = copied_more c.args.marks.now c.loop-done.marks c.copy_run-done.new.marks c.args.others.now c.args.to
+          c.args.from c.loop-done.done c.copy_run-done.result before.copied c.copy_run-done.ensures.copied;
     }
 
 pub returns : goal.returns

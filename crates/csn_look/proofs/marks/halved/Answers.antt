@@ -13,6 +13,10 @@ pub loop-at-preserved : goal.loop-at-preserved
 loop-at-preserved c =
     let P : ℕ → Type 0 = λ half. IsHalved c.args.marks (c.loop-at.at + 1) half in
     elim c.if-marks-at-ne0.branch [
-      | then-marks-at-ne0 w ↦ subst P (sym w.half-is) (halved_one c.args.marks c.loop-at.at c.loop-at.half c.loop-at-test.true w.if-marks-at-ne0.true c.loop-at.invariant)
-      | else-marks-at-ne0 w ↦ subst P (sym w.half-is) (halved_none c.args.marks c.loop-at.at c.loop-at.half c.loop-at-test.true w.if-marks-at-ne0.false c.loop-at.invariant)
+      | then-marks-at-ne0 w ↦ subst P (sym w.half-is)
+          (halved_one c.args.marks c.loop-at.at c.loop-at.half c.loop-at-test.true w.if-marks-at-ne0.true
+          c.loop-at.invariant)
+      | else-marks-at-ne0 w ↦ subst P (sym w.half-is)
+          (halved_none c.args.marks c.loop-at.at c.loop-at.half c.loop-at-test.true w.if-marks-at-ne0.false
+          c.loop-at.invariant)
     ]

@@ -30,4 +30,5 @@ loop-at-preserved c = (
 )
 
 pub returns-then-left-eq1-clause-here : goal.returns-then-left-eq1-clause-here
-returns-then-left-eq1-clause-here c = λ low. this_sought (is_sought c.args.sought c.args.table.now) c.sought_in.result c.loop-at.at c.sought_in.ensures c.if-left-eq1.true
+returns-then-left-eq1-clause-here c = λ low. this_sought (is_sought c.args.sought c.args.table.now)
+    c.sought_in.result c.loop-at.at c.sought_in.ensures c.if-left-eq1.true

@@ -7,7 +7,8 @@ returns-then-n-eq0 c = λ d look. before_none d c.args.count c.in-Fixed.n c.args
 
 pub returns-else-n-eq0 : goal.returns-else-n-eq0
 returns-else-n-eq0 c =
-    λ d look. before_fixed d c.args.count c.in-Fixed.n c.args.part c.lengths-once.result c.with.result c.times.result c.in-Fixed.is c.if-n-eq0.false (c.lengths-once.ensures d look) c.with.ensures c.times.ensures
+    λ d look. before_fixed d c.args.count c.in-Fixed.n c.args.part c.lengths-once.result c.with.result c.times.result
+    c.in-Fixed.is c.if-n-eq0.false (c.lengths-once.ensures d look) c.with.ensures c.times.ensures
 
 pub returns-in-Counted : goal.returns-in-Counted
 returns-in-Counted c =

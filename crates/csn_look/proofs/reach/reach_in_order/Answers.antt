@@ -17,8 +17,11 @@ loop-at-preserved c =
       kept_more parts c.args.reached.now c.loop-at.reached at part c.loop-at.here c.get-part.ensures c.loop-at.invariant.0,
       (λ d look.
           let h = c.loop-at.invariant.1 d look in (
-            begins_next d parts c.args.from c.loop-at.here c.plus-here.result c.lengths.result at part c.get-part.ensures h.0 (c.lengths.ensures d look) c.plus-here.ensures,
-            put_more parts at part c.loop-at.reached c.loop-at.here (BeginsAt d parts c.args.from) c.requires.once c.get-part.ensures (omega (arith, c.requires.below at part c.get-part.ensures)) h.0 h.1,
+            begins_next d parts c.args.from c.loop-at.here c.plus-here.result c.lengths.result at part
+                c.get-part.ensures h.0 (c.lengths.ensures d look) c.plus-here.ensures,
+            put_more parts at part c.loop-at.reached c.loop-at.here (BeginsAt d parts c.args.from)
+                c.requires.once c.get-part.ensures (omega (arith, c.requires.below at part c.get-part.ensures))
+                h.0 h.1,
           )),
     )
 

@@ -7,13 +7,19 @@ use Rattle.csn_movetext.proofs.alternatives.alternatives.Goals.{in-Choice, in_de
 
 pub number_parts-requires : goal.number_parts-requires
 number_parts-requires g c = λ k part get.
-    omega (arith, parts_within c.args.plan.now c.loop-i.i k part (Choice c.in-Choice.parts) c.len-count.ensures.description (c.node.ensures.node ∙ ap Some c.in-Choice.is) get, c.loop-i.invariant.all)
+    omega (
+      arith,
+      parts_within c.args.plan.now c.loop-i.i k part (Choice c.in-Choice.parts)
+          c.len-count.ensures.description (c.node.ensures.node ∙ ap Some c.in-Choice.is) get,
+      c.loop-i.invariant.all,
+    )
 
 pub loop-i-preserved : goal.loop-i-preserved
 loop-i-preserved g c = elim c.match-node.branch [
   | in-Choice w ↦ rw w.numbers-is (numbers_next c.args.plan.now c.loop-i.i w.in-Choice.parts c.loop-i.numbers.items _ c.len-count.ensures.description
       (c.node.ensures.node ∙ ap Some w.in-Choice.is) w.number_parts.ensures.len w.number_parts.ensures.numbered c.loop-i.invariant)
-  | in_default w ↦ rw w.numbers-is (numbers_same c.args.plan.now c.loop-i.i c.node.result.now c.loop-i.numbers.items c.node.ensures.node w.in_default.not-Choice c.loop-i.invariant)
+  | in_default w ↦ rw w.numbers-is (numbers_same c.args.plan.now c.loop-i.i c.node.result.now c.loop-i.numbers.items
+      c.node.ensures.node w.in_default.not-Choice c.loop-i.invariant)
 ]
 
 pub returns : goal.returns

@@ -14,7 +14,8 @@ loop-i-preserved g c =
     ∙ ap (λ k. Some (get_or c.in_ok-numbers.numbers.items k c.index.result.now)) (sym c.from.ensures) ∙ ap Some (sym c.index.ensures) in
     let form : c.add.new.self.form ≡ c.args.form = ap (λ (o : OpeningsV). o.form) c.in_ok-add.ensures.added ∙ c.loop-i.invariant.0 in (
       form,
-      begun_next c.args.form c.args.plan.now c.in_ok-numbers.numbers.items c.loop-i.i c.index.result.now c.node-node.result.now c.loop-i.openings.texts c.add.new.self.texts
+      begun_next c.args.form c.args.plan.now c.in_ok-numbers.numbers.items c.loop-i.i c.index.result.now
+          c.node-node.result.now c.loop-i.openings.texts c.add.new.self.texts
           given c.node-node.ensures.node c.in_ok-add.ensures.label (ap (λ (o : OpeningsV). o.texts) c.in_ok-add.ensures.added) c.loop-i.invariant.1,
       ap (λ (o : OpeningsV). o.templates) c.in_ok-add.ensures.added ∙ c.loop-i.invariant.2,
     )

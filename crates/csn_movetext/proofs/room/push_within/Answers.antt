@@ -13,11 +13,15 @@ returns-in-len2-clause-extends c = extends_then _ _ _ (_, c.push_reserved-in-len
 
 pub returns-in-len3-clause-extends : goal.returns-in-len3-clause-extends
 returns-in-len3-clause-extends c =
-    extends_then _ _ _ (_, c.push_reserved-in-len3.ensures.items) (extends_then _ _ _ (_, c.push_reserved-in-len3-2.ensures.items) (_, c.push_reserved-in-len3-3.ensures.items))
+    extends_then _ _ _ (_, c.push_reserved-in-len3.ensures.items)
+    (extends_then _ _ _ (_, c.push_reserved-in-len3-2.ensures.items) (_, c.push_reserved-in-len3-3.ensures.items))
 
 pub returns-in-len4-clause-extends : goal.returns-in-len4-clause-extends
 returns-in-len4-clause-extends c =
-    extends_then _ _ _ (_, c.push_reserved-in-len4.ensures.items) (extends_then _ _ _ (_, c.push_reserved-in-len4-2.ensures.items) (extends_then _ _ _ (_, c.push_reserved-in-len4-3.ensures.items) (_, c.push_reserved-in-len4-4.ensures.items)))
+    extends_then _ _ _ (_, c.push_reserved-in-len4.ensures.items)
+    (extends_then _ _ _ (_, c.push_reserved-in-len4-2.ensures.items)
+    (extends_then _ _ _ (_, c.push_reserved-in-len4-3.ensures.items)
+    (_, c.push_reserved-in-len4-4.ensures.items)))
 
 pub returns-in_err-extend_from_slice-in_default-clause-extends : goal.returns-in_err-extend_from_slice-in_default-clause-extends
 returns-in_err-extend_from_slice-in_default-clause-extends c = extends_none _ _ c.in_err-extend_from_slice-in_default.ensures.items

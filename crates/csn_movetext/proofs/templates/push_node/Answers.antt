@@ -12,4 +12,5 @@ push_parts-requires-clause-parts c = λ j part get. c.requires.parts j part (ap 
 
 pub returns-in-Named : goal.returns-in-Named
 returns-in-Named c =
-    if_named c.push_part.result c.args.made.plan.now c.args.node.now c.in-Named.label c.in-Named.part c.args.width c.args.made.templates.now c.args.template.now c.push_part.new.template c.in-Named.is c.push_part.ensures
+    if_named c.push_part.result c.args.made.plan.now c.args.node.now c.in-Named.label c.in-Named.part c.args.width
+    c.args.made.templates.now c.args.template.now c.push_part.new.template c.in-Named.is c.push_part.ensures

@@ -20,5 +20,6 @@ loop-k-preserved c = (
 
 pub returns : goal.returns
 returns c = λ yes.
-    parts_written c.args.made.plan.now c.args.parts.now c.args.width c.args.made.templates.now c.loop-k.k c.loop-k.behind c.args.template.now c.loop-k.template c.push_text-2.new.self
+    parts_written c.args.made.plan.now c.args.parts.now c.args.width c.args.made.templates.now c.loop-k.k
+    c.loop-k.behind c.args.template.now c.loop-k.template c.push_text-2.new.self
     (omega (arith, c.loop-k-test.false, c.loop-k.auto.k-end, c.len-k-end.ensures.len)) c.in_ok-push_text-2.ensures c.loop-k.invariant.1

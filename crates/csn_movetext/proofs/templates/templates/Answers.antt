@@ -41,10 +41,13 @@ pub template_of-requires-clause-templates : goal.template_of-requires-clause-tem
 template_of-requires-clause-templates g c = subst (λ l. AreTemplates c.args.plan.now c.args.openings.now l) (sym c.as_slice.ensures.value) c.loop-i.invariant.2
 
 pub loop-i-preserved-in_ok-made : goal.loop-i-preserved-in_ok-made
-loop-i-preserved-in_ok-made g c = one_more c.args.plan.now c.args.openings.now c.loop-i.templates.items c.loop-i.i c.from.result c.in_ok-made.made c.with_room.result c.from.ensures c.loop-i.invariant c.with_room.ensures c.in_ok-made.ensures
+loop-i-preserved-in_ok-made g c = one_more c.args.plan.now c.args.openings.now c.loop-i.templates.items c.loop-i.i
+    c.from.result c.in_ok-made.made c.with_room.result c.from.ensures c.loop-i.invariant c.with_room.ensures
+    c.in_ok-made.ensures
 
 pub loop-i-preserved : goal.loop-i-preserved
-loop-i-preserved g c = one_more c.args.plan.now c.args.openings.now c.loop-i.templates.items c.loop-i.i c.from.result c.in_ok-made.made c.with_room.result c.from.ensures c.loop-i.invariant c.with_room.ensures c.in_ok-made.ensures
+loop-i-preserved g c = one_more c.args.plan.now c.args.openings.now c.loop-i.templates.items c.loop-i.i c.from.result
+    c.in_ok-made.made c.with_room.result c.from.ensures c.loop-i.invariant c.with_room.ensures c.in_ok-made.ensures
 
 pub returns : goal.returns
 returns g c = c.loop-i.invariant.2

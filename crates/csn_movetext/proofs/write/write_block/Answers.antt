@@ -9,7 +9,8 @@ use Rattle.csn_movetext.proofs.write.write_block.Goals as goal
 pub returns-in-Ok-clause-text : goal.returns-in-Ok-clause-text
 returns-in-Ok-clause-text g c =
     let more : List ℕ = take c.args.bits (bits_of_octets c.args.octets.now) in
-    let bytes : c.feed-fed.new.self.before ≡ c.args.out.now.items = c.feed-fed.ensures.before ∙ c.new-text.ensures.before ∙ (rw c.replace.ensures.value refl) in
+    let bytes : c.feed-fed.new.self.before ≡ c.args.out.now.items = c.feed-fed.ensures.before
+    ∙ c.new-text.ensures.before ∙ (rw c.replace.ensures.value refl) in
     let desc : c.feed-fed.new.self.desc ≡ c.args.plan.now = c.feed-fed.ensures.desc ∙ c.new-text.ensures.desc in
     let form : c.feed-fed.new.self.form ≡ c.args.openings.now.form = c.feed-fed.ensures.form ∙ c.new-text.ensures.form in
     let B : List ℕ → Type 0 = λ l. AddsText c.args.openings.now.form c.args.plan.now more l c.in-Ok.written.items in
@@ -25,5 +26,6 @@ returns-in-Err-clause-why g c =
     let desc : c.feed-fed.new.self.desc ≡ c.args.plan.now = c.feed-fed.ensures.desc ∙ c.new-text.ensures.desc in
     let D : DescV → Type 0 = λ d. IsFaultOf d more c.in-Err.field-0.why in
     subst D desc
-    (whole_fault c.new-text.result c.feed-fed.new.self more c.feed-fed.result c.in-Err.field-0.why c.feed-fed.ensures.desc c.new-text.ensures.writes c.feed-fed.ensures.writes
+    (whole_fault c.new-text.result c.feed-fed.new.self more c.feed-fed.result c.in-Err.field-0.why
+    c.feed-fed.ensures.desc c.new-text.ensures.writes c.feed-fed.ensures.writes
     (λ wanting. c.in-Err.ensures.no_memory (c.feed-fed.ensures.answer ∙ wanting)) c.in-Err.ensures.why)

@@ -10,4 +10,5 @@ returns-in_err-rules-clause-none c =
     rw p.1 (subst (IsReason c.args.text.now c.args.name.now c.args.reading) (sym p.2) (c.in_err-rules.ensures.none c.args.name.now c.args.reading))
 
 pub returns-clause-none : goal.returns-clause-none
-returns-clause-none c = resolved_reason c.args.text.now c.args.name.now c.args.reading c.in_ok-rules.rules c.in-Err.fault c.in_ok-rules.ensures.rules c.in-Err.ensures.refused
+returns-clause-none c = resolved_reason c.args.text.now c.args.name.now c.args.reading c.in_ok-rules.rules
+    c.in-Err.fault c.in_ok-rules.ensures.rules c.in-Err.ensures.refused

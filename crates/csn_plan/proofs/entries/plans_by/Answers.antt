@@ -10,15 +10,21 @@ use Rattle.csn_plan.proofs.entries.plans_by.Goals as goal
 
 pub returns-in-Err-clause-none : goal.returns-in-Err-clause-none
 returns-in-Err-clause-none c =
-    none_before c.args.reading c.args.rules.now _ c.loop-entry.entry-index _ _ c.entries-entry-items.ensures (omega (arith, c.loop-entry-test.true)) c.root_of.ensures c.requires.fits c.loop-entry.plans.items c.in-Err.reason c.loop-entry.invariant (c.in-Err.ensures.none catalogue_text c.requires.rules)
+    none_before c.args.reading c.args.rules.now _ c.loop-entry.entry-index _ _ c.entries-entry-items.ensures
+    (omega (arith, c.loop-entry-test.true)) c.root_of.ensures c.requires.fits c.loop-entry.plans.items
+    c.in-Err.reason c.loop-entry.invariant (c.in-Err.ensures.none catalogue_text c.requires.rules)
 
 pub returns-in_default-clause-none : goal.returns-in_default-clause-none
 returns-in_default-clause-none c =
-    none_before c.args.reading c.args.rules.now _ c.loop-entry.entry-index _ _ c.entries-entry-items.ensures (omega (arith, c.loop-entry-test.true)) c.root_of.ensures c.requires.fits c.loop-entry.plans.items (Plan NoMemory) c.loop-entry.invariant tt
+    none_before c.args.reading c.args.rules.now _ c.loop-entry.entry-index _ _ c.entries-entry-items.ensures
+    (omega (arith, c.loop-entry-test.true)) c.root_of.ensures c.requires.fits c.loop-entry.plans.items
+    (Plan NoMemory) c.loop-entry.invariant tt
 
 pub loop-entry-preserved : goal.loop-entry-preserved
 loop-entry-preserved c =
-    one_plan_more c.args.reading c.args.rules.now _ c.loop-entry.entry-index _ _ c.entries-entry-items.ensures (omega (arith, c.loop-entry-test.true)) c.root_of.ensures c.loop-entry.plans.items _ c.in-Ok.plan c.in-Ok-keep_plan.ensures c.loop-entry.invariant (c.in-Ok.ensures.plan catalogue_text c.requires.rules)
+    one_plan_more c.args.reading c.args.rules.now _ c.loop-entry.entry-index _ _ c.entries-entry-items.ensures
+    (omega (arith, c.loop-entry-test.true)) c.root_of.ensures c.loop-entry.plans.items _ c.in-Ok.plan
+    c.in-Ok-keep_plan.ensures c.loop-entry.invariant (c.in-Ok.ensures.plan catalogue_text c.requires.rules)
 
 pub loop-entry-init : goal.loop-entry-init
 loop-entry-init c = rw c.new-plans.ensures.items tt

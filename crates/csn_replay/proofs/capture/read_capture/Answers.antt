@@ -8,8 +8,11 @@ returns-in_err-word_end-clause-every c entry at is =
 
 pub returns-in_err-entry-clause-every : goal.returns-in_err-entry-clause-every
 returns-in_err-entry-clause-every c entry at is =
-    let found = c.in_err-entry.ensures.of_each_word entry (word_before c.args.line.now entry at c.in_ok-word_end.word_end is c.in_ok-word_end.ensures.0 c.in_ok-word_end.ensures.1) in cc
+    let found = c.in_err-entry.ensures.of_each_word entry
+    (word_before c.args.line.now entry at c.in_ok-word_end.word_end is c.in_ok-word_end.ensures.0
+    c.in_ok-word_end.ensures.1) in cc
 
 pub returns-clause-capture : goal.returns-clause-capture
 returns-clause-capture c =
-    capture_at c.args.line.now c.in_ok-entry.entry c.in_ok-word_end.word_end c.in_ok-word_end.ensures.0.high c.in_ok-word_end.ensures.1 c.in_ok-entry.ensures.its_word
+    capture_at c.args.line.now c.in_ok-entry.entry c.in_ok-word_end.word_end c.in_ok-word_end.ensures.0.high
+    c.in_ok-word_end.ensures.1 c.in_ok-entry.ensures.its_word

@@ -7,7 +7,8 @@ use Rattle.csn_replay.proofs.head.word_goes_on.Goals as goal
 pub returns-then-is_err : goal.returns-then-is_err
 returns-then-is_err c = record {
   head = λ line word more entry at.
-      let full : length c.args.word.items + length c.args.bytes.now ≤ 8 → ⊥ = λ fits. (let took = c.try_extend_from_slice.ensures.variant.1 fits in search rules) in
+      let full : length c.args.word.items + length c.args.bytes.now ≤ 8 → ⊥ =
+      λ fits. (let took = c.try_extend_from_slice.ensures.variant.1 fits in search rules) in
       let longer : length (entry_word entry) < length (line ++ c.args.bytes.now) =
       omega (arith, full, word_short entry, ap length word.0, length-append line c.args.bytes.now) in
       space_missing (line ++ c.args.bytes.now) more entry at (still_clear line c.args.bytes.now word.1 c.in_default.ensures) longer;
@@ -29,8 +30,14 @@ returns-in-Some-entry_of_parts c =
     let end = c.in-Some.word_end in
     let entry = c.in-Some-entry_of_parts.entry in
     record {
-      head = λ line word. (drop (end + 1) c.args.bytes.now, split_word line _ _ end entry word.0 c.in-Some.ensures.0.high c.in-Some.ensures.1 c.in-Some-entry_of_parts.ensures.its_word);
-      block = λ line word. block_behind entry _ _ (split_word line _ _ end entry word.0 c.in-Some.ensures.0.high c.in-Some.ensures.1 c.in-Some-entry_of_parts.ensures.its_word);
+      head = λ line word. (
+        drop (end + 1) c.args.bytes.now,
+        split_word line _ _ end entry word.0
+            c.in-Some.ensures.0.high c.in-Some.ensures.1 c.in-Some-entry_of_parts.ensures.its_word,
+      );
+      block = λ line word. block_behind entry _ _
+          (split_word line _ _ end entry word.0 c.in-Some.ensures.0.high c.in-Some.ensures.1
+          c.in-Some-entry_of_parts.ensures.its_word);
       within = omega (arith, c.in-Some.ensures.0.high);
     }
 

@@ -1,6 +1,8 @@
 use Rattle.std.proofs.Common.{arith, refl, ◌∙◌}
 use Rattle.csn_replay.specs.declared.told.Told.TheVariants.{Ok, WriteFault}
-use Rattle.csn_replay.proofs.Puts.{broke_off, took_all, took_more, within_more, kept_on, leaves_on, leaves_still, ok_is_no_fault, memory_is_no_fault, fault_is_not_ok, memory_is_not_ok, took_has_not_failed, full_has_not_failed}
+use Rattle.csn_replay.proofs.Puts.{broke_off, took_all, took_more, within_more, kept_on, leaves_on, leaves_still}
+use Rattle.csn_replay.proofs.Puts.{ok_is_no_fault, memory_is_no_fault, fault_is_not_ok, memory_is_not_ok}
+use Rattle.csn_replay.proofs.Puts.{took_has_not_failed, full_has_not_failed}
 use Rattle.csn_replay.proofs.output.put_all.Goals as goal
 
 pub loop-passed-preserved : goal.loop-passed-preserved
@@ -10,7 +12,9 @@ loop-passed-preserved g c =
     let text = c.args.text.now in
     record {
       within = within_more p n text c.loop-passed.invariant.within c.in-Took.ensures.within;
-      took = took_more (g.K.Sink.taken c.args.out.now) (g.K.Sink.taken c.loop-passed.out) (g.K.Sink.taken c.put.new.self) p n text c.loop-passed.invariant.within c.loop-passed.invariant.took c.in-Took.ensures.appended;
+      took = took_more (g.K.Sink.taken c.args.out.now) (g.K.Sink.taken c.loop-passed.out)
+          (g.K.Sink.taken c.put.new.self) p n text c.loop-passed.invariant.within c.loop-passed.invariant.took
+          c.in-Took.ensures.appended;
       no_fault = c.in-Took.ensures.outside.2 took_has_not_failed ∙ c.loop-passed.invariant.no_fault;
       steady = λ was. (c.in-Took.ensures.outside.1 (c.loop-passed.invariant.steady was)).0;
     }
@@ -21,8 +25,15 @@ loop-passed-smaller g c = omega (arith, c.in-Took.ensures.at_least_one, c.loop-p
 pub returns-in-Failed : goal.returns-in-Failed
 returns-in-Failed g c =
     let at = c.loop-passed.invariant in
-    let left = leaves_on WriteFault at.no_fault at.steady (λ is. c.in-Failed.ensures.failed) c.in-Failed.ensures.outside (λ is. refl) (λ was is. c.in-Failed.ensures.steady_not_failed was) in
-    record { wrote = broke_off _ _ _ _ _ _ fault_is_not_ok c.in-Failed.ensures.taken_stays at.took; write_fault = left.write_fault; outside = left.outside; steady_no_fault = left.steady_no_fault }
+    let left = leaves_on WriteFault at.no_fault at.steady (λ is. c.in-Failed.ensures.failed)
+    c.in-Failed.ensures.outside (λ is. refl) (λ was is. c.in-Failed.ensures.steady_not_failed was) in
+    record {
+      wrote = broke_off _ _ _ _ _ _ fault_is_not_ok c.in-Failed.ensures.taken_stays at.took;
+      write_fault =
+          left.write_fault;
+      outside = left.outside;
+      steady_no_fault = left.steady_no_fault;
+    }
 
 pub returns-in-NoMemory : goal.returns-in-NoMemory
 returns-in-NoMemory g c = record {

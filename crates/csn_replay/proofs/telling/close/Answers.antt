@@ -30,7 +30,8 @@ loop-watcher-preserved g c =
 
 pub returns-in_default : goal.returns-in_default
 returns-in_default g c =
-    let left = leaves_on c.report.result c.loop-watcher.invariant.no_fault c.loop-watcher.invariant.steady c.report.ensures.write_fault c.report.ensures.outside (λ is. is) c.report.ensures.steady_no_fault in
+    let left = leaves_on c.report.result c.loop-watcher.invariant.no_fault c.loop-watcher.invariant.steady
+    c.report.ensures.write_fault c.report.ensures.outside (λ is. is) c.report.ensures.steady_no_fault in
     record {
       wrote = broke_off_of _ _ _ _ _ _ _ _ _ c.in_default.not-Ok c.in-Some.ensures.steps.0 c.loop-watcher.invariant.reporting c.report.ensures.wrote;
       write_fault = left.write_fault;
@@ -42,4 +43,10 @@ pub returns : goal.returns
 returns g c =
     let left = leaves_still Ok ok_is_no_fault c.loop-watcher.invariant.no_fault c.loop-watcher.invariant.steady in
     let end = nil_from_length _ (sym c.loop-watcher.invariant.len ∙ c.in-None.ensures.steps.0) in
-    record { wrote = all_reported_of _ _ _ _ _ end c.loop-watcher.invariant.reporting; write_fault = left.write_fault; outside = left.outside; steady_no_fault = left.steady_no_fault }
+    record {
+      wrote = all_reported_of _ _ _ _ _ end c.loop-watcher.invariant.reporting;
+      write_fault =
+          left.write_fault;
+      outside = left.outside;
+      steady_no_fault = left.steady_no_fault;
+    }

@@ -15,4 +15,10 @@ returns-in-Ok g c = record {
 }
 
 pub returns-in-Err : goal.returns-in-Err
-returns-in-Err g c = record { wrote = wrote_none _ _ memory_is_not_ok; write_fault = λ is. absurd (memory_is_no_fault is); outside = kept_all _ _; steady_no_fault = λ was. memory_is_no_fault }
+returns-in-Err g c = record {
+  wrote = wrote_none _ _ memory_is_not_ok;
+  write_fault =
+      λ is. absurd (memory_is_no_fault is);
+  outside = kept_all _ _;
+  steady_no_fault = λ was. memory_is_no_fault;
+}

@@ -7,7 +7,15 @@ use Rattle.csn_replay.proofs.telling.tell.Goals.{in-Ok, in-WriteFault}
 
 pub loop-at-init : goal.loop-at-init
 loop-at-init g c =
-    record { write_fault = λ is. absurd (ok_is_no_fault is); no_fault = λ fine. refl; never_falls = omega arith; steady = λ was. was; steady_no_fault = λ was. ok_is_no_fault; telling = none_told _ _ _ }
+    record {
+      write_fault = λ is. absurd (ok_is_no_fault is);
+      no_fault = λ fine. refl;
+      never_falls =
+          omega arith;
+      steady = λ was. was;
+      steady_no_fault = λ was. ok_is_no_fault;
+      telling = none_told _ _ _;
+    }
 
 pub loop-at-preserved-in-None : goal.loop-at-preserved-in-None
 loop-at-preserved-in-None g c =

@@ -18,7 +18,8 @@ returns-then-eq c =
     let sure : same_name c.in-Some.found.label.now c.args.label.now ≡ true =
     ap (λ (l : List ℕ). same_name l c.args.label.now) (sym c.bytes.ensures.value) ∙ (sym c.eq.ensures ∙ c.if-eq.true) in
     sym (c.loop-at.invariant ∙ (ap (λ (k : ℕ). seen_in (frame_after c.args.reading [] (take k c.args.items.now)) c.args.label.now) step
-    ∙ (has-label c.args.reading c.args.items.now (c.loop-at.at - 1) c.get.result.now c.args.label.now c.in-Some.found.label.now c.get.ensures c.in-Some.ensures.0 sure
+    ∙ (has-label c.args.reading c.args.items.now (c.loop-at.at - 1) c.get.result.now c.args.label.now
+    c.in-Some.found.label.now c.get.ensures c.in-Some.ensures.0 sure
     ∙ ap Some c.in-Some.ensures.1)))
 
 pub loop-at-preserved : goal.loop-at-preserved
@@ -27,7 +28,8 @@ loop-at-preserved c =
     let unlike : same_name c.in-Some.found.label.now c.args.label.now ≡ false =
     ap (λ (l : List ℕ). same_name l c.args.label.now) (sym c.bytes.ensures.value) ∙ (sym c.eq.ensures ∙ c.if-eq.false) in
     c.loop-at.invariant ∙ (ap (λ (k : ℕ). seen_in (frame_after c.args.reading [] (take k c.args.items.now)) c.args.label.now) step
-    ∙ other-label c.args.reading c.args.items.now (c.loop-at.at - 1) c.get.result.now c.args.label.now c.in-Some.found.label.now c.get.ensures c.in-Some.ensures.0 unlike)
+    ∙ other-label c.args.reading c.args.items.now (c.loop-at.at - 1) c.get.result.now c.args.label.now
+    c.in-Some.found.label.now c.get.ensures c.in-Some.ensures.0 unlike)
 
 pub loop-at-init : goal.loop-at-init
 loop-at-init c =

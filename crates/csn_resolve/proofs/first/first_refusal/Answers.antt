@@ -26,12 +26,14 @@ returns-in_err-leave_part-clause-refused c =
     let p = err_from_is_err_and c.from_residual-in_err-leave_part.result c.from_residual-in_err-leave_part.ensures.1 in
     let some : rule_of c.args.names.now c.args.name.now ≡ Some c.rule-rule.result.now = c.in-Some.ensures.rule ∙ c.rule-rule.ensures in
     rw (p.1, p.2) (on-walk c.args.names.now c.args.reading c.args.name.now c.requires.once c.rule-rule.result.now _ some
-    (λ walk left h g. stops-later 0 c.in_ok-walk_rule.field-0.nodes walk left _ (c.in_ok-walk_rule.ensures walk (outermost-in c.args.names.now c.args.reading c.args.name _ _ refl refl h))
+    (λ walk left h g. stops-later 0 c.in_ok-walk_rule.field-0.nodes walk left _
+    (c.in_ok-walk_rule.ensures walk (outermost-in c.args.names.now c.args.reading c.args.name _ _ refl refl h))
     (c.in_err-leave_part.ensures left g c.in_ok-walk_rule.field-0.nodes)))
 
 pub returns-clause-accepted : goal.returns-clause-accepted
 returns-clause-accepted c =
     let some : rule_of c.args.names.now c.args.name.now ≡ Some c.rule-rule.result.now = c.in-Some.ensures.rule ∙ c.rule-rule.ensures in
     accepted c.args.names.now c.args.reading c.args.name.now c.requires.once c.rule-rule.result.now c.in_ok-walk_rule.field-0.nodes some
-    (λ walk left h g. way-on 0 c.in_ok-walk_rule.field-0.nodes walk left (c.in_ok-walk_rule.ensures walk (outermost-in c.args.names.now c.args.reading c.args.name _ _ refl refl h))
+    (λ walk left h g. way-on 0 c.in_ok-walk_rule.field-0.nodes walk left
+    (c.in_ok-walk_rule.ensures walk (outermost-in c.args.names.now c.args.reading c.args.name _ _ refl refl h))
     ∙ c.in_ok-leave_part.ensures left g c.in_ok-walk_rule.field-0.nodes)

@@ -19,7 +19,8 @@ if_ok_more (Err e) P Q more h = h
 pub returns-in_err-names-clause-refused : goal.returns-in_err-names-clause-refused
 returns-in_err-names-clause-refused c =
     let p = err_from_is_err_and c.from_residual.result c.from_residual.ensures.1 in
-    rw (p.1, p.2) (λ why place q. first_refused c.args.rules.now c.args.reading c.args.name.now (defined-twice c.args.rules.now c.args.reading c.args.name.now _ c.in_err-names.ensures.twice) q)
+    rw (p.1, p.2) (λ why place q. first_refused c.args.rules.now c.args.reading c.args.name.now
+    (defined-twice c.args.rules.now c.args.reading c.args.name.now _ c.in_err-names.ensures.twice) q)
 
 pub resolve_name-requires-clause-once : goal.resolve_name-requires-clause-once
 resolve_name-requires-clause-once c =

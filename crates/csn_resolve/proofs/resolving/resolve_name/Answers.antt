@@ -24,7 +24,9 @@ build_rule-requires-clause-gives c =
     let found : rule_of c.args.names.now c.args.name.now ≡ Some c.rule.result.now = c.in_ok-number.ensures.rule ∙ c.rule.ensures in
     let P : List Placed → Type 0 = λ z. RuleGivesFew c.args.names.now c.args.reading c.rule.result.now (length z) [] in
     let Q : Seen ℕ → Type 0 = λ z. RuleGivesFew c.args.names.now c.args.reading c.rule.result.now (length c.new-made.result) z in
-    subst Q (sym (shown-Nothing c.args.reading)) (subst P (sym c.new-made.ensures) (rule_few c.args.names.now c.args.reading c.args.name.now found c.in_ok-number.ensures.accepted))
+    subst Q (sym (shown-Nothing c.args.reading))
+    (subst P (sym c.new-made.ensures)
+    (rule_few c.args.names.now c.args.reading c.args.name.now found c.in_ok-number.ensures.accepted))
 
 pub describe-requires-clause-numbered : goal.describe-requires-clause-numbered
 describe-requires-clause-numbered c =
@@ -36,7 +38,8 @@ pub returns-clause-resolved : goal.returns-clause-resolved
 returns-clause-resolved c =
     let found : rule_of c.args.names.now c.args.name.now ≡ Some c.rule.result.now = c.in_ok-number.ensures.rule ∙ c.rule.ensures in
     let adds = adds_first c.args.names.now c.args.reading c.args.name.now (shown-Nothing c.args.reading) c.new-made.ensures c.in_ok-build_rule.ensures in
-    if_resolved c.args.names.now c.args.reading c.args.name.now c.describe.result found c.in_ok-number.ensures.accepted adds c.describe.ensures.described c.describe.ensures.fits
+    if_resolved c.args.names.now c.args.reading c.args.name.now c.describe.result found
+    c.in_ok-number.ensures.accepted adds c.describe.ensures.described c.describe.ensures.fits
 
 pub returns-clause-refused : goal.returns-clause-refused
 returns-clause-refused c = λ why place p.

@@ -12,19 +12,25 @@ loop-at-init c =
 
 pub loop-at-preserved-in_default : goal.loop-at-preserved-in_default
 loop-at-preserved-in_default c =
-    c.loop-at.invariant ∙ passed-by c.args.reading c.args.items.now c.args.nodes.now (c.loop-at.at - 1) c.loop-at.at c.get.result.now (get_or c.args.nodes.now (c.loop-at.at - 1) 0) c.args.label.now (omega arith) c.get.ensures
+    c.loop-at.invariant ∙ passed-by c.args.reading c.args.items.now c.args.nodes.now (c.loop-at.at - 1)
+    c.loop-at.at c.get.result.now (get_or c.args.nodes.now (c.loop-at.at - 1) 0) c.args.label.now (omega arith)
+    c.get.ensures
     (slice_get-get_or c.args.nodes.now (c.loop-at.at - 1) 0 (omega arith)) c.in_default.ensures
 
 pub returns-then-eq : goal.returns-then-eq
 returns-then-eq c =
     let sure : same_name c.in-Some.found.label.now c.args.label.now ≡ true =
     ap (λ (l : List ℕ). same_name l c.args.label.now) (sym c.bytes.ensures.value) ∙ (sym c.eq.ensures ∙ c.if-eq.true) in
-    sym (c.loop-at.invariant ∙ has-label c.args.reading c.args.items.now c.args.nodes.now (c.loop-at.at - 1) c.loop-at.at c.get.result.now (get_or c.args.nodes.now (c.loop-at.at - 1) 0) c.args.label.now c.in-Some.found.label.now (omega arith) c.get.ensures
+    sym (c.loop-at.invariant ∙ has-label c.args.reading c.args.items.now c.args.nodes.now (c.loop-at.at - 1)
+    c.loop-at.at c.get.result.now (get_or c.args.nodes.now (c.loop-at.at - 1) 0)
+    c.args.label.now c.in-Some.found.label.now (omega arith) c.get.ensures
     (slice_get-get_or c.args.nodes.now (c.loop-at.at - 1) 0 (omega arith)) c.in-Some.ensures.0 sure)
 
 pub loop-at-preserved : goal.loop-at-preserved
 loop-at-preserved c =
     let unlike : same_name c.in-Some.found.label.now c.args.label.now ≡ false =
     ap (λ (l : List ℕ). same_name l c.args.label.now) (sym c.bytes.ensures.value) ∙ (sym c.eq.ensures ∙ c.if-eq.false) in
-    c.loop-at.invariant ∙ other-label c.args.reading c.args.items.now c.args.nodes.now (c.loop-at.at - 1) c.loop-at.at c.get.result.now (get_or c.args.nodes.now (c.loop-at.at - 1) 0) c.args.label.now c.in-Some.found.label.now (omega arith) c.get.ensures
+    c.loop-at.invariant ∙ other-label c.args.reading c.args.items.now c.args.nodes.now (c.loop-at.at - 1)
+    c.loop-at.at c.get.result.now (get_or c.args.nodes.now (c.loop-at.at - 1) 0)
+    c.args.label.now c.in-Some.found.label.now (omega arith) c.get.ensures
     (slice_get-get_or c.args.nodes.now (c.loop-at.at - 1) 0 (omega arith)) c.in-Some.ensures.0 unlike

@@ -14,18 +14,24 @@ pub returns-in_err-last : goal.returns-in_err-last
 returns-in_err-last c =
     let is = known c.args.x.now c.x.inside.span c.x.inside.form _ c.x.view_is c.in-Seq.is in
     let long : length c.in-Seq.items ≡ 2 = omega arith in
-    rw c.from_residual.ensures (sym (ap (again_of c.args.name.now) is ∙ again-nameless c.args.name.now c.x.inside.span.start c.x.inside.span.end c.in-Seq.items c.get.result.now long c.get.ensures (sym c.in_err-last.ensures)))
+    rw c.from_residual.ensures
+    (sym (ap (again_of c.args.name.now) is ∙ again-nameless c.args.name.now c.x.inside.span.start
+    c.x.inside.span.end c.in-Seq.items c.get.result.now long c.get.ensures (sym c.in_err-last.ensures)))
 
 pub returns-then-eq : goal.returns-then-eq
 returns-then-eq c =
     let is = known c.args.x.now c.x.inside.span c.x.inside.form _ c.x.view_is c.in-Seq.is in
     let long : length c.in-Seq.items ≡ 2 = omega arith in
     let sure : same_name c.in_ok-last.last.now c.args.name.now ≡ true = cc in
-    c.word_of.ensures ∙ sym (ap (again_of c.args.name.now) is ∙ again-word c.args.name.now c.in_ok-last.last.now c.x.inside.span.start c.x.inside.span.end c.in-Seq.items c.get-then-eq.result.now c.get.result.now long c.get-then-eq.ensures c.get.ensures (sym c.in_ok-last.ensures) sure)
+    c.word_of.ensures
+    ∙ sym (ap (again_of c.args.name.now) is ∙ again-word c.args.name.now c.in_ok-last.last.now
+    c.x.inside.span.start c.x.inside.span.end c.in-Seq.items c.get-then-eq.result.now c.get.result.now long
+    c.get-then-eq.ensures c.get.ensures (sym c.in_ok-last.ensures) sure)
 
 pub returns-else-eq : goal.returns-else-eq
 returns-else-eq c =
     let is = known c.args.x.now c.x.inside.span c.x.inside.form _ c.x.view_is c.in-Seq.is in
     let long : length c.in-Seq.items ≡ 2 = omega arith in
     let unlike : same_name c.in_ok-last.last.now c.args.name.now ≡ false = cc in
-    sym (ap (again_of c.args.name.now) is ∙ again-other c.args.name.now c.in_ok-last.last.now c.x.inside.span.start c.x.inside.span.end c.in-Seq.items c.get.result.now long c.get.ensures (sym c.in_ok-last.ensures) unlike)
+    sym (ap (again_of c.args.name.now) is ∙ again-other c.args.name.now c.in_ok-last.last.now c.x.inside.span.start
+    c.x.inside.span.end c.in-Seq.items c.get.result.now long c.get.ensures (sym c.in_ok-last.ensures) unlike)

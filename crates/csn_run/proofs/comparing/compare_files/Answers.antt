@@ -5,11 +5,13 @@ use Rattle.csn_run.proofs.Apart.{the_fault}
 use Rattle.csn_run.proofs.comparing.compare_files.Goals as goal
 
 pub returns-in-Ok-clause-ends : goal.returns-in-Ok-clause-ends
-returns-in-Ok-clause-ends g c = λ words row watchers left taken. texts_end words c.args.pair row _ watchers _ _ left taken _ _ c.in-Ok.ensures.before c.in-Ok.ensures.after c.compare_texts.ensures
+returns-in-Ok-clause-ends g c = λ words row watchers left taken. texts_end words c.args.pair row _ watchers _ _ left
+    taken _ _ c.in-Ok.ensures.before c.in-Ok.ensures.after c.compare_texts.ensures
 
 pub returns-in-Err-clause-ends : goal.returns-in-Err-clause-ends
 returns-in-Err-clause-ends g c = λ words row watchers left taken.
-    fault_ends words c.args.pair row _ watchers left taken _ c.in-Err.fault (λ e. c.in-Err.ensures.not_write (ap Err e)) (λ e. c.in-Err.ensures.too_long (ap Err e)) c.requires.pending
+    fault_ends words c.args.pair row _ watchers left taken _ c.in-Err.fault
+    (λ e. c.in-Err.ensures.not_write (ap Err e)) (λ e. c.in-Err.ensures.too_long (ap Err e)) c.requires.pending
 
 pub returns-in-Err-clause-read : goal.returns-in-Err-clause-read
 returns-in-Err-clause-read g c = λ e words row.

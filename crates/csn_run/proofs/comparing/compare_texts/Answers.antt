@@ -7,7 +7,8 @@ returns-in-Err c = refuses_before c.in-Err.reason (rw (c.deref.ensures.value, c.
 
 pub returns-in-Err-certified_text : goal.returns-in-Err-certified_text
 returns-in-Err-certified_text c =
-    refuses_after c.in-Ok.ensures.desc.0 c.in-Ok.desc c.in-Err-certified_text.reason (rw (c.deref.ensures.value, c.as_bytes-name.ensures.value) at c.in-Ok.ensures.desc.1)
+    refuses_after c.in-Ok.ensures.desc.0 c.in-Ok.desc c.in-Err-certified_text.reason
+    (rw (c.deref.ensures.value, c.as_bytes-name.ensures.value) at c.in-Ok.ensures.desc.1)
     (rw (c.deref-2.ensures.value, c.as_bytes-name.ensures.value) at c.in-Err-certified_text.ensures.none) c.refuse-in-Err-certified_text.ensures
 
 pub returns : goal.returns

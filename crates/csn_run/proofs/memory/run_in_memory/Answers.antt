@@ -9,10 +9,13 @@ use Rattle.csn_run.proofs.memory.run_in_memory.Goals as goal
 
 pub returns-clause-result : goal.returns-clause-result
 returns-clause-result c =
-    let P : List Watched → Type 0 = λ watchers. IfOk c.run_watched.result (λ ran. IsFinished ran.ended → Result (map string_bytes c.args.words.now) (file_of c.args.files) watchers c.args.input.items ran.text.items ran.ended) in
+    let P : List Watched → Type 0 = λ watchers. IfOk c.run_watched.result
+    (λ ran. IsFinished ran.ended → Result (map string_bytes c.args.words.now) (file_of c.args.files)
+    watchers c.args.input.items ran.text.items ran.ended) in
     subst P (none_watch _ _ c.new.ensures.items) c.run_watched.ensures.result
 
 pub returns-clause-begins : goal.returns-clause-begins
 returns-clause-begins c =
-    let P : List Watched → Type 0 = λ watchers. IfOk c.run_watched.result (λ ran. ran.ended ≢ Usage → BeginsResult (map string_bytes c.args.words.now) (file_of c.args.files) watchers c.args.input.items ran.text.items) in
+    let P : List Watched → Type 0 = λ watchers. IfOk c.run_watched.result (λ ran. ran.ended ≢ Usage → BeginsResult
+    (map string_bytes c.args.words.now) (file_of c.args.files) watchers c.args.input.items ran.text.items) in
     subst P (none_watch _ _ c.new.ensures.items) c.run_watched.ensures.begins

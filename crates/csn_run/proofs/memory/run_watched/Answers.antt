@@ -25,10 +25,12 @@ returns-clause-read_fault g c = λ ended.
 
 pub returns-clause-result : goal.returns-clause-result
 returns-clause-result g c = λ ends.
-    let run = c.run-ended.ensures.result ends (file_of c.args.files) c.args.input.items [] c.new-shelf.ensures.files c.new-source.ensures.left c.new-sink.ensures.taken in
+    let run = c.run-ended.ensures.result ends (file_of c.args.files) c.args.input.items [] c.new-shelf.ensures.files
+    c.new-source.ensures.left c.new-sink.ensures.taken in
     finished (told_once run.1 c.taken.ensures c.in_ok-text.ensures.items) run.2
 
 pub returns-clause-begins : goal.returns-clause-begins
 returns-clause-begins g c = λ used.
-    let run = c.run-ended.ensures.begins used (file_of c.args.files) c.args.input.items [] c.new-shelf.ensures.files c.new-source.ensures.left c.new-sink.ensures.taken in
+    let run = c.run-ended.ensures.begins used (file_of c.args.files) c.args.input.items [] c.new-shelf.ensures.files
+    c.new-source.ensures.left c.new-sink.ensures.taken in
     begun (told_once run.1 c.taken.ensures c.in_ok-text.ensures.items) run.2

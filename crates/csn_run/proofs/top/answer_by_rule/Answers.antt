@@ -16,9 +16,11 @@ answer_by_plan-requires g c = record { ready = c.requires.ready }
 
 pub returns-in-Err : goal.returns-in-Err
 returns-in-Err g c = record {
-  ends = λ words watchers row. refused_ends words c.args.rule (inr (c.args.command, row)) _ watchers _ _ _ c.in-Err.why _ c.in-Err.ensures.none c.refuse.ensures;
+  ends = λ words watchers row. refused_ends words c.args.rule (inr (c.args.command, row))
+      _ watchers _ _ _ c.in-Err.why _ c.in-Err.ensures.none c.refuse.ensures;
   read = λ e. inr (c.in-Err.ensures.read (ap Err (refused_read c.in-Err.why _ _ c.refuse.ensures e)));
-  missing = λ lacks. (let over = refused_missing (Err c.in-Err.why) c.in-Err.why _ _ refl c.refuse.ensures (c.in-Err.ensures.missing lacks) in (over.0, refl, refl, over.1));
+  missing = λ lacks. (let over = refused_missing (Err c.in-Err.why) c.in-Err.why _ _ refl c.refuse.ensures
+      (c.in-Err.ensures.missing lacks) in (over.0, refl, refl, over.1));
   fetched = c.in-Err.ensures.fetched;
   shelf = keeps_along (refused_by_file (Err c.in-Err.why) c.in-Err.why _ _ refl c.refuse.ensures) c.in-Err.ensures.shelf;
   streams = streams_alone (refused_write _ c.args.rule c.in-Err.why _ _ c.in-Err.ensures.none c.refuse.ensures);
@@ -27,7 +29,11 @@ returns-in-Err g c = record {
 pub returns-clause-ends : goal.returns-clause-ends
 returns-clause-ends g c = λ words watchers row.
     let is = c.in-Ok.ensures.plan in
-    lines_end Watches (Works (by_plan c.args.command c.in-Ok.plan)) nothing_kept words _ watchers (by_rule c.args.command is.rules c.args.rule.name.now c.args.rule.reading) _ _ _ _ _ _ _ (asked_by_rule words _ watchers c.args.command c.args.rule c.in-Ok.plan row is) (alone_follows _ _ (λ line answer h. h is.text is.rules _ _ is.compiled)) watches_close refl c.answer_by_plan.ensures.ok c.answer_by_plan.ensures.err
+    lines_end Watches (Works (by_plan c.args.command c.in-Ok.plan)) nothing_kept words _ watchers
+    (by_rule c.args.command is.rules c.args.rule.name.now c.args.rule.reading) _ _ _ _ _ _ _
+    (asked_by_rule words _ watchers c.args.command c.args.rule c.in-Ok.plan row is)
+    (alone_follows _ _ (λ line answer h. h is.text is.rules _ _ is.compiled))
+    watches_close refl c.answer_by_plan.ensures.ok c.answer_by_plan.ensures.err
 
 pub returns-clause-read : goal.returns-clause-read
 returns-clause-read g c = λ e. inl (c.answer_by_plan.ensures.blames.read e)
@@ -38,4 +44,8 @@ returns-clause-fetched g c = c.in-Ok.ensures.fetched
 pub returns-clause-streams : goal.returns-clause-streams
 returns-clause-streams g c =
     let is = c.in-Ok.ensures.plan in
-    streams_of_lines (λ words watchers row. (by_rule c.args.command is.rules c.args.rule.name.now c.args.rule.reading, asked_by_rule words _ watchers c.args.command c.args.rule c.in-Ok.plan row is)) _ _ c.answer_by_plan.ensures.ok c.answer_by_plan.ensures.blames
+    streams_of_lines (λ words watchers row. (
+      by_rule c.args.command is.rules c.args.rule.name.now c.args.rule.reading,
+      asked_by_rule words _ watchers c.args.command c.args.rule c.in-Ok.plan row is,
+    ))
+    _ _ c.answer_by_plan.ensures.ok c.answer_by_plan.ensures.blames

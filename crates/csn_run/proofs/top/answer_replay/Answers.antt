@@ -19,7 +19,9 @@ returns-in-Err g c =
     let none = c.in-Err.ensures.none in
     let rule = rule_of_entry c.args.reading in
     record {
-      ends = λ words files row. reason_ends words files _ (map rule none.0) (rule none.1) (map rule none.2) _ _ _ c.in-Err.reason _ (λ told e. replay_compiles words told c.args.reading none.0 none.1 none.2 row none.3) none.4 c.plans_of_entries.ensures.fits none.5 c.refuse.ensures;
+      ends = λ words files row. reason_ends words files _ (map rule none.0) (rule none.1) (map rule none.2)
+          _ _ _ c.in-Err.reason _ (λ told e. replay_compiles words told c.args.reading none.0 none.1 none.2 row
+          none.3) none.4 c.plans_of_entries.ensures.fits none.5 c.refuse.ensures;
       read = λ e. absurd (text_no_read c.in-Err.reason c.refuse.new.pending.items c.refuse.result c.refuse.ensures e);
       streams = streams_alone (text_no_write c.in-Err.reason c.refuse.new.pending.items c.refuse.result c.refuse.ensures);
     }
@@ -28,7 +30,11 @@ pub new-requires : goal.new-requires
 new-requires g c = ap length c.deref.ensures.value ∙ c.in-Ok.ensures.count
 
 pub returns-in_default : goal.returns-in_default
-returns-in_default g c = record { ends = λ words files row. unread refl refl c.requires.ready.pending (inr refl); read = λ e. absurd (memory_alone e tt); streams = streams_alone (λ e. memory_alone e tt) }
+returns-in_default g c = record {
+  ends = λ words files row. unread refl refl c.requires.ready.pending (inr refl);
+  read = λ e. absurd (memory_alone e tt);
+  streams = streams_alone (λ e. memory_alone e tt);
+}
 
 pub answer_captures-requires : goal.answer_captures-requires
 answer_captures-requires g c = record { begin = c.in-Ok-new.ensures.reads; ready = c.requires.ready }
@@ -42,7 +48,9 @@ returns-clause-ends g c = λ words files row.
     let kept : Kept = record { bodies = []; watchers = watched } in
     let ended = rw c.in-Ok-new.ensures.descs at c.answer_captures.ensures.ok in
     let stopped = rw c.in-Ok-new.ensures.descs at c.answer_captures.ensures.err in
-    lines_end Watches (Works (replaying_by plans)) kept words files watched (replaying is.0 c.args.reading watched) _ _ _ _ _ _ _ (asked_replay words files watched c.args.reading is.0 plans row c.plans_of_entries.ensures.fits are) (replays_follow plans is.0 c.args.reading are) watches_close refl ended stopped
+    lines_end Watches (Works (replaying_by plans)) kept words files watched (replaying is.0 c.args.reading watched)
+    _ _ _ _ _ _ _ (asked_replay words files watched c.args.reading is.0 plans row c.plans_of_entries.ensures.fits
+    are) (replays_follow plans is.0 c.args.reading are) watches_close refl ended stopped
 
 pub returns-clause-read : goal.returns-clause-read
 returns-clause-read g c = c.answer_captures.ensures.blames.read
@@ -50,4 +58,10 @@ returns-clause-read g c = c.answer_captures.ensures.blames.read
 pub returns-clause-streams : goal.returns-clause-streams
 returns-clause-streams g c =
     let is = c.in-Ok.ensures.plans in
-    streams_of_lines (λ words files row. (replaying is.0 c.args.reading _, asked_replay words files _ c.args.reading is.0 c.in-Ok.plans.items row c.plans_of_entries.ensures.fits is.1)) _ _ c.answer_captures.ensures.ok c.answer_captures.ensures.blames
+    streams_of_lines
+    (λ words files row. (
+      replaying is.0 c.args.reading _,
+      asked_replay words files _ c.args.reading is.0
+          c.in-Ok.plans.items row c.plans_of_entries.ensures.fits is.1,
+    )) _ _ c.answer_captures.ensures.ok
+    c.answer_captures.ensures.blames

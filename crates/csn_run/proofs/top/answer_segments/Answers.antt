@@ -12,7 +12,9 @@ refuse-requires g c = c.requires.ready.pending
 
 pub returns-in-Err : goal.returns-in-Err
 returns-in-Err g c = record {
-  ends = λ words files watchers row. reason_ends words files watchers [] (rule_of_entry c.args.reading Downlink) [] _ _ _ c.in-Err.reason _ (λ told e. segments_compile words told c.args.reading row) tt c.plan_of_entry.ensures.fits c.in-Err.ensures.none c.refuse.ensures;
+  ends = λ words files watchers row. reason_ends words files watchers [] (rule_of_entry c.args.reading Downlink)
+      [] _ _ _ c.in-Err.reason _ (λ told e. segments_compile words told c.args.reading row)
+      tt c.plan_of_entry.ensures.fits c.in-Err.ensures.none c.refuse.ensures;
   read = λ e. absurd (text_no_read c.in-Err.reason c.refuse.new.pending.items c.refuse.result c.refuse.ensures e);
   streams = streams_alone (text_no_write c.in-Err.reason c.refuse.new.pending.items c.refuse.result c.refuse.ensures);
 }
@@ -25,7 +27,10 @@ returns-clause-ends g c = λ words files watchers row.
     let is = c.in-Ok.ensures.plan in
     let ended = rw c.new-command.ensures.command at c.answer_lines.ensures.ok in
     let stopped = rw c.new-command.ensures.command at c.answer_lines.ensures.err in
-    lines_end KeepsBodies (Works (joining c.in-Ok.plan)) _ words files watchers (segmenting is.0 c.args.reading) _ _ _ _ _ _ _ (asked_segments words files watchers c.args.reading is.0 c.in-Ok.plan row c.plan_of_entry.ensures.fits is.1) (joins_follow c.in-Ok.plan _ is.0 c.args.reading is.1) keeps_close (record { joins = c.new.ensures; watches = refl }) ended stopped
+    lines_end KeepsBodies (Works (joining c.in-Ok.plan)) _ words files watchers (segmenting is.0 c.args.reading)
+    _ _ _ _ _ _ _ (asked_segments words files watchers c.args.reading is.0 c.in-Ok.plan row
+    c.plan_of_entry.ensures.fits is.1) (joins_follow c.in-Ok.plan _ is.0 c.args.reading is.1) keeps_close
+    (record { joins = c.new.ensures; watches = refl }) ended stopped
 
 pub returns-clause-read : goal.returns-clause-read
 returns-clause-read g c = c.answer_lines.ensures.blames.read
@@ -33,4 +38,9 @@ returns-clause-read g c = c.answer_lines.ensures.blames.read
 pub returns-clause-streams : goal.returns-clause-streams
 returns-clause-streams g c =
     let is = c.in-Ok.ensures.plan in
-    streams_of_lines (λ words files watchers row. (segmenting is.0 c.args.reading, asked_segments words files watchers c.args.reading is.0 c.in-Ok.plan row c.plan_of_entry.ensures.fits is.1)) _ _ c.answer_lines.ensures.ok c.answer_lines.ensures.blames
+    streams_of_lines
+    (λ words files watchers row. (
+      segmenting is.0 c.args.reading,
+      asked_segments words files watchers c.args.reading is.0 c.in-Ok.plan row
+          c.plan_of_entry.ensures.fits is.1,
+    )) _ _ c.answer_lines.ensures.ok c.answer_lines.ensures.blames

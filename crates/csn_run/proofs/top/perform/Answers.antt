@@ -6,7 +6,8 @@ use Rattle.csn_run.proofs.CommandLemmas.{answer_reads, migrate_reads, two_read, 
 use Rattle.csn_lines.proofs.OutsideLemmas.{keeps_still}
 use Rattle.csn_run.proofs.Following.{Watches, alone_follows, watches_close}
 use Rattle.csn_run.proofs.JobLemmas.{asked_migrate, lines_end}
-use Rattle.csn_run.proofs.JobParts.{asks_certificate, asks_none, asks_one, asks_pair, lacking_alone, reads_for, streams_alone, streams_of_lines, streams_within}
+use Rattle.csn_run.proofs.JobParts.{asks_certificate, asks_none, asks_one, asks_pair, lacking_alone, reads_for}
+use Rattle.csn_run.proofs.JobParts.{streams_alone, streams_of_lines, streams_within}
 use Rattle.csn_run.proofs.top.perform.Goals as goal
 
 pub report-requires : goal.report-requires
@@ -16,7 +17,9 @@ pub returns-in-Report : goal.returns-in-Report
 returns-in-Report g c = record {
   ends = λ words row. c.report.ensures.ends words (rw c.in-Report.is at row) _ _ _;
   read = λ e words row. inr (c.in-Report.rule.file.now, comes_to_one _ (inl (c.in-Report.what, rw c.in-Report.is at row)), c.report.ensures.read e);
-  files = λ words row. asks_one (g.B.Shelf.fetch_gives) (g.B.Shelf.files c.args.shelf.now) _ _ (inl (c.in-Report.what, rw c.in-Report.is at row)) c.report.ensures.fetched (λ lacks. lacking_alone (c.report.ensures.missing lacks));
+  files = λ words row. asks_one (g.B.Shelf.fetch_gives) (g.B.Shelf.files c.args.shelf.now) _ _
+      (inl (c.in-Report.what, rw c.in-Report.is at row)) c.report.ensures.fetched
+      (λ lacks. lacking_alone (c.report.ensures.missing lacks));
   shelf = c.report.ensures.shelf;
   streams = streams_alone c.report.ensures.not_write;
 }
@@ -31,9 +34,13 @@ returns-in-Answer g c = record {
     | inl rose ↦ inl rose
     | inr cannot ↦ inr (c.in-Answer.rule.file.now, comes_to_one _ (inr (c.in-Answer.command, rw c.in-Answer.is at row)), cannot)
   ];
-  files = λ words row. asks_one (g.B.Shelf.fetch_gives) (g.B.Shelf.files c.args.shelf.now) _ _ (inr (c.in-Answer.command, rw c.in-Answer.is at row)) c.answer_by_rule.ensures.fetched c.answer_by_rule.ensures.missing;
+  files = λ words row. asks_one (g.B.Shelf.fetch_gives) (g.B.Shelf.files c.args.shelf.now) _ _
+      (inr (c.in-Answer.command, rw c.in-Answer.is at row)) c.answer_by_rule.ensures.fetched
+      c.answer_by_rule.ensures.missing;
   shelf = c.answer_by_rule.ensures.shelf;
-  streams = streams_within (λ asked words row. reads_for words (g.B.Shelf.files c.args.shelf.now) _ (answer_reads c.in-Answer.command (rw c.in-Answer.is at row)) (asked words _ (rw c.in-Answer.is at row))) c.answer_by_rule.ensures.streams;
+  streams = streams_within (λ asked words row. reads_for words (g.B.Shelf.files c.args.shelf.now) _
+      (answer_reads c.in-Answer.command (rw c.in-Answer.is at row)) (asked words _ (rw c.in-Answer.is at row)))
+      c.answer_by_rule.ensures.streams;
 }
 
 pub answer_lines-requires-clause-ready : goal.answer_lines-requires-clause-ready
@@ -43,11 +50,20 @@ pub returns-in-Migrate : goal.returns-in-Migrate
 returns-in-Migrate g c =
     let answered = c.answer_lines.ensures in
     record {
-      ends = λ words row. lines_end Watches (Works renewing) nothing_kept words (g.B.Shelf.files c.args.shelf.now) _ migrating _ _ _ _ _ _ _ (asked_migrate words (g.B.Shelf.files c.args.shelf.now) _ (rw c.in-Migrate.is at row)) (alone_follows _ _ (λ line answer h. h)) watches_close refl answered.ok answered.err;
+      ends = λ words row. lines_end Watches (Works renewing) nothing_kept words (g.B.Shelf.files c.args.shelf.now)
+          _ migrating _ _ _ _ _ _ _ (asked_migrate words (g.B.Shelf.files c.args.shelf.now) _
+          (rw c.in-Migrate.is at row)) (alone_follows _ _ (λ line answer h. h)) watches_close refl answered.ok
+          answered.err;
       read = λ e words row. inl (answered.blames.read e);
       files = λ words row. asks_none (omega (arith, ap length (rw c.in-Migrate.is at row)));
       shelf = keeps_still;
-      streams = streams_of_lines (λ words row. (migrate_reads (rw c.in-Migrate.is at row), migrating, asked_migrate words (g.B.Shelf.files c.args.shelf.now) _ (rw c.in-Migrate.is at row))) _ _ answered.ok answered.blames;
+      streams = streams_of_lines
+          (λ words row. (
+            migrate_reads (rw c.in-Migrate.is at row),
+            migrating,
+            asked_migrate words
+                (g.B.Shelf.files c.args.shelf.now) _ (rw c.in-Migrate.is at row),
+          )) _ _ answered.ok answered.blames;
     }
 
 pub answer_segments-requires : goal.answer_segments-requires
@@ -59,7 +75,9 @@ returns-in-Segments g c = record {
   read = λ e words row. inl (c.answer_segments.ensures.read e);
   files = λ words row. asks_none (omega (arith, ap length (rw c.in-Segments.is at row)));
   shelf = keeps_still;
-  streams = streams_within (λ asked words row. reads_for words (g.B.Shelf.files c.args.shelf.now) _ (two_read (rw c.in-Segments.is at row)) (asked words (g.B.Shelf.files c.args.shelf.now) _ (rw c.in-Segments.is at row))) c.answer_segments.ensures.streams;
+  streams = streams_within (λ asked words row. reads_for words (g.B.Shelf.files c.args.shelf.now) _
+      (two_read (rw c.in-Segments.is at row)) (asked words (g.B.Shelf.files c.args.shelf.now) _
+      (rw c.in-Segments.is at row))) c.answer_segments.ensures.streams;
 }
 
 pub answer_replay-requires : goal.answer_replay-requires
@@ -71,7 +89,9 @@ returns-in-Replay g c = record {
   read = λ e words row. inl (c.answer_replay.ensures.read e);
   files = λ words row. asks_none (omega (arith, ap length (rw c.in-Replay.is at row)));
   shelf = keeps_still;
-  streams = streams_within (λ asked words row. reads_for words (g.B.Shelf.files c.args.shelf.now) _ (two_read (rw c.in-Replay.is at row)) (asked words (g.B.Shelf.files c.args.shelf.now) (rw c.in-Replay.is at row))) c.answer_replay.ensures.streams;
+  streams = streams_within (λ asked words row. reads_for words (g.B.Shelf.files c.args.shelf.now) _
+      (two_read (rw c.in-Replay.is at row)) (asked words (g.B.Shelf.files c.args.shelf.now)
+      (rw c.in-Replay.is at row))) c.answer_replay.ensures.streams;
 }
 
 pub soak_entry-requires-clause-pending : goal.soak_entry-requires-clause-pending
@@ -90,10 +110,32 @@ pub compare_files-requires : goal.compare_files-requires
 compare_files-requires g c = record { pending = c.requires.ready.pending }
 
 pub returns-in-Compat : goal.returns-in-Compat
-returns-in-Compat g c = record { ends = λ words row. c.compare_files.ensures.ends words (rw c.in-Compat.is at row) _ _ _; read = λ e words row. inr (c.compare_files.ensures.read e words (rw c.in-Compat.is at row)); files = λ words row. asks_pair (g.B.Shelf.fetch_gives) (g.B.Shelf.files c.args.shelf.now) _ _ (rw c.in-Compat.is at row) c.compare_files.ensures.fetched (λ file comes lacks. lacking_alone (c.compare_files.ensures.missing words file (rw c.in-Compat.is at row) comes lacks)); shelf = c.compare_files.ensures.shelf; streams = streams_alone c.compare_files.ensures.not_write }
+returns-in-Compat g c = record {
+  ends = λ words row. c.compare_files.ensures.ends words (rw c.in-Compat.is at row)
+      _ _ _;
+  read = λ e words row. inr (c.compare_files.ensures.read e words (rw c.in-Compat.is at row));
+  files =
+      λ words row. asks_pair (g.B.Shelf.fetch_gives) (g.B.Shelf.files c.args.shelf.now) _ _ (rw c.in-Compat.is at row)
+      c.compare_files.ensures.fetched
+      (λ file comes lacks. lacking_alone (c.compare_files.ensures.missing words file (rw c.in-Compat.is at row)
+      comes lacks));
+  shelf = c.compare_files.ensures.shelf;
+  streams = streams_alone c.compare_files.ensures.not_write;
+}
 
 pub verify_file-requires : goal.verify_file-requires
 verify_file-requires g c = record { pending = c.requires.ready.pending }
 
 pub returns-in-Verify : goal.returns-in-Verify
-returns-in-Verify g c = record { ends = λ words row. c.verify_file.ensures.ends words (rw c.in-Verify.is at row) _ _ _; read = λ e words row. inr (c.verify_file.ensures.read e words (rw c.in-Verify.is at row)); files = λ words row. asks_certificate (g.B.Shelf.fetch_gives) (g.B.Shelf.files c.args.shelf.now) _ _ (rw c.in-Verify.is at row) c.verify_file.ensures.fetched (λ file comes lacks. lacking_alone (c.verify_file.ensures.missing words file (rw c.in-Verify.is at row) comes lacks)); shelf = c.verify_file.ensures.shelf; streams = streams_alone c.verify_file.ensures.not_write }
+returns-in-Verify g c = record {
+  ends = λ words row. c.verify_file.ensures.ends words (rw c.in-Verify.is at row)
+      _ _ _;
+  read = λ e words row. inr (c.verify_file.ensures.read e words (rw c.in-Verify.is at row));
+  files =
+      λ words row. asks_certificate (g.B.Shelf.fetch_gives) (g.B.Shelf.files c.args.shelf.now) _ _
+      (rw c.in-Verify.is at row) c.verify_file.ensures.fetched
+      (λ file comes lacks. lacking_alone (c.verify_file.ensures.missing words file (rw c.in-Verify.is at row)
+      comes lacks));
+  shelf = c.verify_file.ensures.shelf;
+  streams = streams_alone c.verify_file.ensures.not_write;
+}

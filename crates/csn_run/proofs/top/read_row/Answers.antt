@@ -10,7 +10,16 @@ pub returns-then-is_none-clause-unread : goal.returns-then-is_none-clause-unread
 returns-then-is_none-clause-unread c = ends_usage refl (λ row. no_row _ c.command_of.result c.command_of.ensures.row c.if-is_none.ensures row)
 
 pub read_words-requires : goal.read_words-requires
-read_words-requires c = record { some = grind (arith, (are_arguments (c.command_of.ensures.row.0 c.if-is_none.ensures)).0, length-map c.args.words.now string_bytes); arguments = (are_arguments (c.command_of.ensures.row.0 c.if-is_none.ensures)).1 }
+read_words-requires c =
+    record {
+      some = grind (
+        arith,
+        (are_arguments (c.command_of.ensures.row.0 c.if-is_none.ensures)).0,
+        length-map c.args.words.now string_bytes,
+      );
+      arguments =
+          (are_arguments (c.command_of.ensures.row.0 c.if-is_none.ensures)).1;
+    }
 
 pub returns-in_default-clause-unread : goal.returns-in_default-clause-unread
 returns-in_default-clause-unread c = ends_wanting refl (c.command_of.ensures.row.0 c.if-is_none.ensures)

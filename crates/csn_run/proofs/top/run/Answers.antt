@@ -4,7 +4,10 @@ use Rattle.csn_io.proofs.Told.{rose_early, rose_late}
 use Rattle.csn_run.proofs.CommandLemmas.{no_row, row_named, comes_named, row_read, command_read}
 use Rattle.csn_run.proofs.OldBlocks.{stays_of}
 use Rattle.csn_lines.proofs.OutsideLemmas.{keeps_along, keeps_both, keeps_still}
-use Rattle.csn_run.proofs.ResultLemmas.{complete_of, result_of, begun_of, read_of, nothing_left_of, as_before, bounded_of, untouched, finished_no_write, finished_no_memory, handed_all, nothing_taken, unread_ends, unwritten_ends, not_usage, ok_of, no_fault_bad, no_fault_uncertified, read_stopped, write_stopped}
+use Rattle.csn_run.proofs.ResultLemmas.{complete_of, result_of, begun_of, read_of, nothing_left_of, as_before}
+use Rattle.csn_run.proofs.ResultLemmas.{bounded_of, untouched, finished_no_write, finished_no_memory, handed_all}
+use Rattle.csn_run.proofs.ResultLemmas.{nothing_taken, unread_ends, unwritten_ends, not_usage, ok_of, no_fault_bad}
+use Rattle.csn_run.proofs.ResultLemmas.{no_fault_uncertified, read_stopped, write_stopped}
 use Rattle.csn_run.proofs.OneTree.{one_tree_of}
 use Rattle.csn_run.proofs.Prompt.{prompt_of}
 use Rattle.csn_run.proofs.UnreadLemmas.{unread_answered, unread_as, unread_finished, unread_row, unread_usage, unread_wanting}
@@ -45,14 +48,26 @@ returns-in-Err g c =
 
 pub unreachable-requires : goal.unreachable-requires
 unreachable-requires g c =
-    no_row _ c.command_of.result c.command_of.ensures.row (ap is_some c.in_default.is) (command_read c.deref.ensures.value c.in-Ok.ensures.words c.in-Ok.ensures.row)
+    no_row _ c.command_of.result c.command_of.ensures.row (ap is_some c.in_default.is)
+    (command_read c.deref.ensures.value c.in-Ok.ensures.words c.in-Ok.ensures.row)
 
 pub perform-outcome-requires : goal.perform-outcome-requires
-perform-outcome-requires g c = record { ready = record { line = c.new-lines.ensures.line; pending = c.new-lines.ensures.pending; refused = c.new-lines.ensures.refused }; row = (_, c.in-Some.ensures.names) }
+perform-outcome-requires g c =
+    record {
+      ready = record {
+        line = c.new-lines.ensures.line;
+        pending = c.new-lines.ensures.pending;
+        refused =
+            c.new-lines.ensures.refused;
+      };
+      row = (_, c.in-Some.ensures.names);
+    }
 
 pub returns-clause-usage : goal.returns-clause-usage
 returns-clause-usage g c = (
-  λ e row. not_usage _ (c.perform-outcome.ensures.ends _ (row_read c.in-Some.command c.deref.ensures.value c.in-Ok.ensures.words c.in-Some.ensures.names)) (sym (c.finish.ensures.end (ends_written _ _ e tt) (ends_provided _ _ e tt)) ∙ e),
+  λ e row. not_usage _
+      (c.perform-outcome.ensures.ends _ (row_read c.in-Some.command c.deref.ensures.value c.in-Ok.ensures.words
+      c.in-Some.ensures.names)) (sym (c.finish.ensures.end (ends_written _ _ e tt) (ends_provided _ _ e tt)) ∙ e),
   λ none. absurd (none c.in-Ok.ensures.row),
 )
 
@@ -60,37 +75,63 @@ pub returns-clause-row : goal.returns-clause-row
 returns-clause-row g c = λ used. c.in-Ok.ensures.row
 
 pub returns-clause-usage_shelf : goal.returns-clause-usage_shelf
-returns-clause-usage_shelf g c = λ e. absurd (not_usage _ (c.perform-outcome.ensures.ends _ (row_read c.in-Some.command c.deref.ensures.value c.in-Ok.ensures.words c.in-Some.ensures.names)) (sym (c.finish.ensures.end (ends_written _ _ e tt) (ends_provided _ _ e tt)) ∙ e))
+returns-clause-usage_shelf g c =
+    λ e. absurd (not_usage _
+    (c.perform-outcome.ensures.ends _ (row_read c.in-Some.command c.deref.ensures.value c.in-Ok.ensures.words
+    c.in-Some.ensures.names)) (sym (c.finish.ensures.end (ends_written _ _ e tt) (ends_provided _ _ e tt)) ∙ e))
 
 pub returns-clause-usage_input : goal.returns-clause-usage_input
-returns-clause-usage_input g c = λ e. absurd (not_usage _ (c.perform-outcome.ensures.ends _ (row_read c.in-Some.command c.deref.ensures.value c.in-Ok.ensures.words c.in-Some.ensures.names)) (sym (c.finish.ensures.end (ends_written _ _ e tt) (ends_provided _ _ e tt)) ∙ e))
+returns-clause-usage_input g c =
+    λ e. absurd (not_usage _
+    (c.perform-outcome.ensures.ends _ (row_read c.in-Some.command c.deref.ensures.value c.in-Ok.ensures.words
+    c.in-Some.ensures.names)) (sym (c.finish.ensures.end (ends_written _ _ e tt) (ends_provided _ _ e tt)) ∙ e))
 
 pub returns-clause-usage_out : goal.returns-clause-usage_out
-returns-clause-usage_out g c = λ e. absurd (not_usage _ (c.perform-outcome.ensures.ends _ (row_read c.in-Some.command c.deref.ensures.value c.in-Ok.ensures.words c.in-Some.ensures.names)) (sym (c.finish.ensures.end (ends_written _ _ e tt) (ends_provided _ _ e tt)) ∙ e))
+returns-clause-usage_out g c =
+    λ e. absurd (not_usage _
+    (c.perform-outcome.ensures.ends _ (row_read c.in-Some.command c.deref.ensures.value c.in-Ok.ensures.words
+    c.in-Some.ensures.names)) (sym (c.finish.ensures.end (ends_written _ _ e tt) (ends_provided _ _ e tt)) ∙ e))
 
 pub returns-clause-fetched : goal.returns-clause-fetched
-returns-clause-fetched g c = λ files names. inl ((c.perform-outcome.ensures.files _ (row_read c.in-Some.command c.deref.ensures.value c.in-Ok.ensures.words c.in-Some.ensures.names)).fetched files names)
+returns-clause-fetched g c =
+    λ files names. inl
+    ((c.perform-outcome.ensures.files _ (row_read c.in-Some.command c.deref.ensures.value c.in-Ok.ensures.words
+    c.in-Some.ensures.names)).fetched files names)
 
 pub returns-clause-no_lines : goal.returns-clause-no_lines
-returns-clause-no_lines g c = λ never. elim c.perform-outcome.ensures.streams.touches [ inl same ↦ same | inr reads ↦ absurd (never (reads _ (row_read c.in-Some.command c.deref.ensures.value c.in-Ok.ensures.words c.in-Some.ensures.names)).0) ]
+returns-clause-no_lines g c =
+    λ never. elim c.perform-outcome.ensures.streams.touches [
+      | inl same ↦ same
+      | inr reads ↦ absurd
+          (never (reads _ (row_read c.in-Some.command c.deref.ensures.value c.in-Ok.ensures.words
+          c.in-Some.ensures.names)).0)
+    ]
 
 pub returns-clause-no_job : goal.returns-clause-no_job
 returns-clause-no_job g c = λ files written ended f before.
     elim c.perform-outcome.ensures.streams.touches [
       | inl same ↦ same
-      | inr reads ↦ untouched c.known.ensures.of_texts _ files _ written ended _ _ before (inr (rw f at (reads _ (row_read c.in-Some.command c.deref.ensures.value c.in-Ok.ensures.words c.in-Some.ensures.names))))
+      | inr reads ↦ untouched c.known.ensures.of_texts _ files _ written ended _ _ before
+          (inr (rw f at
+          (reads _ (row_read c.in-Some.command c.deref.ensures.value c.in-Ok.ensures.words c.in-Some.ensures.names))))
     ]
 
 pub returns-clause-before_lines : goal.returns-clause-before_lines
 returns-clause-before_lines g c = λ ended.
     elim ended [
-      | inl e ↦ c.perform-outcome.ensures.streams.before_lines (inl (ok_of _ _ (sym (c.finish.ensures.end (ends_written _ _ e tt) (ends_provided _ _ e tt)) ∙ e) no_fault_bad))
-      | inr e ↦ c.perform-outcome.ensures.streams.before_lines (inr (ok_of _ _ (sym (c.finish.ensures.end (ends_written _ _ e tt) (ends_provided _ _ e tt)) ∙ e) no_fault_uncertified))
+      | inl e ↦ c.perform-outcome.ensures.streams.before_lines
+          (inl (ok_of _ _ (sym (c.finish.ensures.end (ends_written _ _ e tt) (ends_provided _ _ e tt)) ∙ e)
+          no_fault_bad))
+      | inr e ↦ c.perform-outcome.ensures.streams.before_lines
+          (inr (ok_of _ _ (sym (c.finish.ensures.end (ends_written _ _ e tt) (ends_provided _ _ e tt)) ∙ e)
+          no_fault_uncertified))
     ]
 
 pub returns-clause-bounded : goal.returns-clause-bounded
 returns-clause-bounded g c = λ whole rest s left.
-    bounded_of _ _ _ whole rest _ _ _ _ _ (rw s at (c.perform-outcome.ensures.ends _ (row_read c.in-Some.command c.deref.ensures.value c.in-Ok.ensures.words c.in-Some.ensures.names))) left
+    bounded_of _ _ _ whole rest _ _ _ _ _
+    (rw s at (c.perform-outcome.ensures.ends _
+    (row_read c.in-Some.command c.deref.ensures.value c.in-Ok.ensures.words c.in-Some.ensures.names))) left
 
 pub returns-clause-one_tree : goal.returns-clause-one_tree
 returns-clause-one_tree g c = λ answered files f.
@@ -107,19 +148,27 @@ returns-clause-blocks_stay g c = λ e files f.
 
 pub returns-clause-missing : goal.returns-clause-missing
 returns-clause-missing g c = λ file comes lacks.
-    let m = (c.perform-outcome.ensures.files _ (row_read c.in-Some.command c.deref.ensures.value c.in-Ok.ensures.words c.in-Some.ensures.names)).missing file comes lacks in
+    let m = (c.perform-outcome.ensures.files _ (row_read c.in-Some.command c.deref.ensures.value c.in-Ok.ensures.words
+    c.in-Some.ensures.names)).missing file comes lacks in
     let took = c.finish.ensures.took in
     (m.1, nothing_taken _ _ _ _ _ _ (ap g.K.Sink.taken m.2) m.3 took.2 took.3, unread_ends _ _ m.0 c.finish.ensures.end)
 
 pub returns-clause-read_fault : goal.returns-clause-read_fault
 returns-clause-read_fault g c = λ e.
     let is = sym (c.finish.ensures.end (ends_written _ _ e tt) (ends_provided _ _ e tt)) ∙ e in
-    c.perform-outcome.ensures.read (read_stopped _ (c.perform-outcome.ensures.ends _ (row_read c.in-Some.command c.deref.ensures.value c.in-Ok.ensures.words c.in-Some.ensures.names)) is) _ (row_read c.in-Some.command c.deref.ensures.value c.in-Ok.ensures.words c.in-Some.ensures.names)
+    c.perform-outcome.ensures.read
+    (read_stopped _
+    (c.perform-outcome.ensures.ends _ (row_read c.in-Some.command c.deref.ensures.value c.in-Ok.ensures.words
+    c.in-Some.ensures.names)) is) _ (row_read c.in-Some.command c.deref.ensures.value c.in-Ok.ensures.words
+    c.in-Some.ensures.names)
 
 pub returns-clause-write_fault : goal.returns-clause-write_fault
 returns-clause-write_fault g c = λ e.
     elim (c.finish.ensures.write e) [
-      | inl wrote ↦ rose_early _ _ _ (c.perform-outcome.ensures.streams.write (write_stopped _ (c.perform-outcome.ensures.ends _ (row_read c.in-Some.command c.deref.ensures.value c.in-Ok.ensures.words c.in-Some.ensures.names)) wrote)) c.finish.ensures.out.0
+      | inl wrote ↦ rose_early _ _ _ (c.perform-outcome.ensures.streams.write
+          (write_stopped _
+          (c.perform-outcome.ensures.ends _ (row_read c.in-Some.command c.deref.ensures.value c.in-Ok.ensures.words
+          c.in-Some.ensures.names)) wrote)) c.finish.ensures.out.0
       | inr rose ↦ rose_late _ _ _ c.perform-outcome.ensures.streams.out.0 rose
     ]
 
@@ -130,7 +179,9 @@ returns-clause-complete g c = λ row no_source no_sink no_file.
     (λ e. not_usage _ ends (sym (c.finish.ensures.end (ends_written _ _ e tt) (ends_provided _ _ e tt)) ∙ e))
     (λ e.
     let is = sym (c.finish.ensures.end (ends_written _ _ e tt) (ends_provided _ _ e tt)) ∙ e in
-    elim (c.perform-outcome.ensures.read (read_stopped _ ends is) _ (row_read c.in-Some.command c.deref.ensures.value c.in-Ok.ensures.words c.in-Some.ensures.names)) [ inl rose ↦ no_source rose | inr f ↦ no_file f.0 f.1 f.2 ])
+    elim (c.perform-outcome.ensures.read (read_stopped _ ends is) _
+    (row_read c.in-Some.command c.deref.ensures.value c.in-Ok.ensures.words c.in-Some.ensures.names))
+    [ inl rose ↦ no_source rose | inr f ↦ no_file f.0 f.1 f.2 ])
     (λ e. elim (c.finish.ensures.write e) [
       | inl wrote ↦ no_sink (rose_early _ _ _ (c.perform-outcome.ensures.streams.write (write_stopped _ ends wrote)) c.finish.ensures.out.0)
       | inr rose ↦ no_sink (rose_late _ _ _ c.perform-outcome.ensures.streams.out.0 rose)
@@ -143,11 +194,14 @@ pub returns-clause-input : goal.returns-clause-input
 returns-clause-input g c = keeps_along (λ e. unread_ends _ _ (inl e) c.finish.ensures.end) c.perform-outcome.ensures.streams.input
 
 pub returns-clause-out : goal.returns-clause-out
-returns-clause-out g c = keeps_both (λ e. unwritten_ends _ _ e c.finish.ensures.end) (λ e. inr (inl e)) c.perform-outcome.ensures.streams.out c.finish.ensures.out
+returns-clause-out g c = keeps_both (λ e. unwritten_ends _ _ e c.finish.ensures.end) (λ e. inr (inl e))
+    c.perform-outcome.ensures.streams.out c.finish.ensures.out
 
 pub returns-clause-result : goal.returns-clause-result
 returns-clause-result g c = λ finished files whole before f s k.
-    let ends = rw (f, s, k) at (c.perform-outcome.ensures.ends _ (row_read c.in-Some.command c.deref.ensures.value c.in-Ok.ensures.words c.in-Some.ensures.names)) in
+    let ends = rw (f, s, k) at
+    (c.perform-outcome.ensures.ends _ (row_read c.in-Some.command c.deref.ensures.value c.in-Ok.ensures.words
+    c.in-Some.ensures.names)) in
     let took = c.finish.ensures.took in
     let no_write = finished_no_write c.finish.result finished in
     let no_memory = finished_no_memory c.finish.result finished in
@@ -156,13 +210,17 @@ returns-clause-result g c = λ finished files whole before f s k.
 
 pub returns-clause-begins : goal.returns-clause-begins
 returns-clause-begins g c = λ used files whole before f s k.
-    let ends = rw (f, s, k) at (c.perform-outcome.ensures.ends _ (row_read c.in-Some.command c.deref.ensures.value c.in-Ok.ensures.words c.in-Some.ensures.names)) in
+    let ends = rw (f, s, k) at
+    (c.perform-outcome.ensures.ends _ (row_read c.in-Some.command c.deref.ensures.value c.in-Ok.ensures.words
+    c.in-Some.ensures.names)) in
     let took = c.finish.ensures.took in
     begun_of _ files _ whole before c.lines_have_one_answer.ensures.some_answer _ _ _ _ _ _ _ ends took.2 took.3
 
 pub returns-clause-reading : goal.returns-clause-reading
 returns-clause-reading g c = λ e files whole before f s k.
-    let ends = rw (f, s, k) at (c.perform-outcome.ensures.ends _ (row_read c.in-Some.command c.deref.ensures.value c.in-Ok.ensures.words c.in-Some.ensures.names)) in
+    let ends = rw (f, s, k) at
+    (c.perform-outcome.ensures.ends _ (row_read c.in-Some.command c.deref.ensures.value c.in-Ok.ensures.words
+    c.in-Some.ensures.names)) in
     let took = c.finish.ensures.took in
     let no_write = ends_written _ _ e tt in
     let no_memory = ends_provided _ _ e tt in
@@ -171,7 +229,9 @@ returns-clause-reading g c = λ e files whole before f s k.
 
 pub returns-clause-prompt : goal.returns-clause-prompt
 returns-clause-prompt g c = λ used files whole before f s k.
-    let ends = rw (f, s, k) at (c.perform-outcome.ensures.ends _ (row_read c.in-Some.command c.deref.ensures.value c.in-Ok.ensures.words c.in-Some.ensures.names)) in
+    let ends = rw (f, s, k) at
+    (c.perform-outcome.ensures.ends _ (row_read c.in-Some.command c.deref.ensures.value c.in-Ok.ensures.words
+    c.in-Some.ensures.names)) in
     prompt_of _ files _ whole before _ _ _ _ _ _ ends c.finish.ensures.took.3
 
 pub returns-clause-input_read : goal.returns-clause-input_read
@@ -183,7 +243,9 @@ returns-clause-input_read g c = λ read reads.
     ]
 
 pub returns-clause-no_file : goal.returns-clause-no_file
-returns-clause-no_file g c = λ none. (c.perform-outcome.ensures.files _ (row_read c.in-Some.command c.deref.ensures.value c.in-Ok.ensures.words c.in-Some.ensures.names)).no_file none
+returns-clause-no_file g c =
+    λ none. (c.perform-outcome.ensures.files _ (row_read c.in-Some.command c.deref.ensures.value c.in-Ok.ensures.words
+    c.in-Some.ensures.names)).no_file none
 
 pub returns-clause-flushed : goal.returns-clause-flushed
 returns-clause-flushed g c = λ used no_write no_memory. c.finish.ensures.flushed no_write no_memory

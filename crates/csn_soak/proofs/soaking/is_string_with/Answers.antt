@@ -9,4 +9,5 @@ pub returns-clause-answer : goal.returns-clause-answer
 returns-clause-answer c =
     let P : List ℕ → Type 0 = λ bits. IsTrue c.is_string.result ↔ IsString c.args.judge.now.desc bits in
     let whole : List ℕ = bits_of_octets c.octets-octets.result.now in
-    subst P (append-nil _ ∙ take_all _ whole (omega (arith, length-bits_of_octets c.octets-octets.result.now)) ∙ c.octets-octets.ensures.bits ∙ c.put.ensures.bits) c.is_string.ensures.answer
+    subst P (append-nil _ ∙ take_all _ whole (omega (arith, length-bits_of_octets c.octets-octets.result.now))
+    ∙ c.octets-octets.ensures.bits ∙ c.put.ensures.bits) c.is_string.ensures.answer

@@ -16,13 +16,22 @@ pub new-requires-clause-near : goal.new-requires-clause-near
 new-requires-clause-near c = omega (arith, c.sample_of-sample.ensures.at, c.sample_of-sample.ensures.width, near c.args.entry)
 
 pub loop-k-init : goal.loop-k-init
-loop-k-init c = record { number = refl; soaked = record { ok = of_none refl refl; all = refl; bits = refl }; fresh = (c.new-judge.ensures.judges, c.new-judge.ensures.seen); desc = c.new-judge.ensures.desc; template = c.in-Ok.ensures }
+loop-k-init c = record {
+  number = refl;
+  soaked = record { ok = of_none refl refl; all = refl; bits = refl };
+  fresh =
+      (c.new-judge.ensures.judges, c.new-judge.ensures.seen);
+  desc = c.new-judge.ensures.desc;
+  template =
+      c.in-Ok.ensures;
+}
 
 pub add-requires-clause-short : goal.add-requires-clause-short
 add-requires-clause-short c =
     let k : ℕ = c.loop-k.k in
     let octets : c.sample_of-sample.result.octets.now ≡ sample_octets c.args.entry = c.sample_of-sample.ensures.octets in
-    let bits : c.length_of.result ≡ length (block c.args.entry k) = c.length_of.ensures ∙ ap (λ (o : List ℕ). if is_cut k then 1 else 8 * length o) octets ∙ long c.args.entry k in
+    let bits : c.length_of.result ≡ length (block c.args.entry k) = c.length_of.ensures
+    ∙ ap (λ (o : List ℕ). if is_cut k then 1 else 8 * length o) octets ∙ long c.args.entry k in
     omega (arith, bits, short c.args.entry k, few_bits c.args.entry k, c.loop-k.invariant.soaked.bits, c.loop-k-test.true, c.requires)
 
 pub loop-k-preserved : goal.loop-k-preserved
@@ -30,7 +39,8 @@ loop-k-preserved c =
     let k : ℕ = c.loop-k.k in
     let next : suc k ≡ k + 1 = omega arith in
     let octets : c.sample_of-sample.result.octets.now ≡ sample_octets c.args.entry = c.sample_of-sample.ensures.octets in
-    let bits : c.length_of.result ≡ length (block c.args.entry k) = c.length_of.ensures ∙ ap (λ (o : List ℕ). if is_cut k then 1 else 8 * length o) octets ∙ long c.args.entry k in
+    let bits : c.length_of.result ≡ length (block c.args.entry k) = c.length_of.ensures
+    ∙ ap (λ (o : List ℕ). if is_cut k then 1 else 8 * length o) octets ∙ long c.args.entry k in
     let x : c.next-number.result ≡ number (suc k) = c.next-number.ensures ∙ ap next_number c.loop-k.invariant.number in
     let tells : IsTrue c.is_block_string-ok.result ↔ IsString c.args.plan.now (block c.args.entry k) =
     subst (λ (d : DescV). IsTrue c.is_block_string-ok.result ↔ IsString d (block c.args.entry k)) c.loop-k.invariant.desc

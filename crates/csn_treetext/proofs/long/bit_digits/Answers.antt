@@ -21,7 +21,8 @@ close-requires-clause-stands c =
     let e = c.in_ok-bits.ensures.comes c.args.stack.now c.requires.comes in
     rw c.requires.first
     (subst (λ t. Stands First c.args.source.text.now c.in_ok-bits.field-0.end (with_tree c.args.stack.now t)) (sym c.leaf.ensures)
-    (bits_closed c.args.source.text.now c.in_ok-bits.field-0.end c.in_ok-bits.field-0.bits c.args.stack.now e (c.if-not-is_leaf.ensures.long refl) (c.if-not-is_leaf.ensures.ends refl)))
+    (bits_closed c.args.source.text.now c.in_ok-bits.field-0.end c.in_ok-bits.field-0.bits c.args.stack.now e
+    (c.if-not-is_leaf.ensures.long refl) (c.if-not-is_leaf.ensures.ends refl)))
 
 pub returns : goal.returns
 returns c = gives_from _ _ _ _ _ c.close.result c.in_ok-bits.ensures.from c.close.ensures

@@ -14,11 +14,18 @@ loop-bit-preserved c =
       omega arith,
       λ stack e.
           subst (λ l. Comes First c.args.text.now (c.loop-bit.end + 1) (state (Bare l) stack)) (sym c.in_ok-push_bit-in-Some.ensures)
-          (bit_more c.args.text.now c.loop-bit.end c.loop-bit.bits c.in-Some.bit stack (comes stack e) low is small (omega (arith, c.loop-bit-test.true, c.len.ensures.count))),
+          (bit_more c.args.text.now c.loop-bit.end c.loop-bit.bits c.in-Some.bit stack (comes stack e) low is small
+          (omega (arith, c.loop-bit-test.true, c.len.ensures.count))),
     )
 
 pub returns-in-None : goal.returns-in-None
-returns-in-None c = record { comes = c.loop-bit.invariant.2; stops = inr c.in-None.ensures.none; from = c.loop-bit.invariant.0; within = c.loop-bit.invariant.1 }
+returns-in-None c = record {
+  comes = c.loop-bit.invariant.2;
+  stops = inr c.in-None.ensures.none;
+  from =
+      c.loop-bit.invariant.0;
+  within = c.loop-bit.invariant.1;
+}
 
 pub returns : goal.returns
 returns c = record {

@@ -8,7 +8,8 @@ use Rattle.csn_treetext.proofs.long.block_line_end.Goals.{then-count-lt-MOST_OCT
 
 pub returns-then-is_some : goal.returns-then-is_some
 returns-then-is_some c =
-    let (high, low, first) = digit_there c.args.source.text.now c.args.end c.digit_at.result c.digit_at.ensures.some (sym c.is_some.ensures ∙ c.if-is_some.true) in
+    let (high, low, first) = digit_there c.args.source.text.now c.args.end c.digit_at.result c.digit_at.ensures.some
+    (sym c.is_some.ensures ∙ c.if-is_some.true) in
     rw c.requires.second (elim c.if-count-lt-MOST_OCTETS.branch [
       | then-count-lt-MOST_OCTETS w ↦ subst (λ p. IsFaultPlace Second c.args.source.text.now p) (sym w.place-is)
           (octets_unpaired c.args.source.text.now c.args.end c.args.octets.now high c.args.stack.now c.requires.comes low first c.requires.stops (omega arith))

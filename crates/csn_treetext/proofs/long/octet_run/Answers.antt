@@ -14,7 +14,8 @@ loop-octet-preserved c =
     let (low, octet) = c.in-Some.ensures.some in
     let (high, other, first, second, is) = octet in
     let room : length c.loop-octet.octets.items < MOST_OCTETS = omega (arith, c.loop-octet-test.true) in
-    let gathered : c.push.new.self.items ≡ c.loop-octet.octets.items ++ (16 * high + other) ∷ [] = c.in_ok-push-in-Some.ensures.items ∙ ap (λ o. c.loop-octet.octets.items ++ o ∷ []) is in (
+    let gathered : c.push.new.self.items ≡ c.loop-octet.octets.items ++ (16 * high + other) ∷ [] =
+    c.in_ok-push-in-Some.ensures.items ∙ ap (λ o. c.loop-octet.octets.items ++ o ∷ []) is in (
       omega arith,
       omega arith,
       omega (arith, ap length gathered, length_push c.loop-octet.octets.items (16 * high + other), room),

@@ -20,7 +20,8 @@ returns-then-not-may_end c =
     let text = c.args.source.text.now in
     let (stands, end) = c.name_end-stands.result in
     let e = c.name_end-stands.ensures.comes c.args.source.version c.args.stack.now c.requires.comes in
-    name_stops c.args.source.version text end (take (end - c.args.from) (drop c.args.from text)) stands c.args.stack.now c.name_end-stands.ensures.within e c.name_end-stands.ensures.stops
+    name_stops c.args.source.version text end (take (end - c.args.from) (drop c.args.from text))
+    stands c.args.stack.now c.name_end-stands.ensures.within e c.name_end-stands.ensures.stops
     (λ low. elim c.then-not-may_end.branch [
       | then-not-may_end-via-then-not-may_end w ↦ nor_both (slice_index text end == 62) (may_end stands) (sym c.may_end.ensures ∙ w.if-not-may_end.true)
       | then-not-may_end-via-else-not-may_end+then-not-stands_at w ↦ ap (λ b. b && may_end stands) (w.if-not-stands_at.ensures.no refl low)
@@ -32,7 +33,8 @@ push_label-requires c =
     let (stands, end) = c.name_end-stands.result in
     let label = take (end - c.args.from) (drop c.args.from text) in
     let e = c.name_end-stands.ensures.comes c.args.source.version c.args.stack.now c.requires.comes in
-    label_of_run label stands (reached c.args.source.version (take end text) (state (Name label stands) c.args.stack.now) e).mode (sym c.may_end.ensures ∙ c.if-not-may_end.false)
+    label_of_run label stands (reached c.args.source.version (take end text)
+    (state (Name label stands) c.args.stack.now) e).mode (sym c.may_end.ensures ∙ c.if-not-may_end.false)
 
 pub returns-then-not-stands_at-2 : goal.returns-then-not-stands_at-2
 returns-then-not-stands_at-2 c =

@@ -22,10 +22,13 @@ returns-in-Whole-clause-ok c =
 pub returns-in-Whole-clause-refused : goal.returns-in-Whole-clause-refused
 returns-in-Whole-clause-refused c =
     let taken = subst (Takes c.args.source.version c.args.source.text.now (c.loop-at.at + 1) c.take.new.stack) c.in-Whole.is c.in_ok-other.ensures in
-    whole_refused c.args.source.version c.args.source.text.now c.in-Whole.end c.in-Whole.tree c.take.new.stack c.whole.result taken.0 taken.1 c.whole.ensures.refused
+    whole_refused c.args.source.version c.args.source.text.now c.in-Whole.end c.in-Whole.tree c.take.new.stack
+    c.whole.result taken.0 taken.1 c.whole.ensures.refused
 
 pub returns-clause-refused : goal.returns-clause-refused
 returns-clause-refused c =
     let (within, room, stands) = c.loop-at.invariant in
     subst (IsFaultOf c.args.source.version c.args.source.text.now) (sym c.fault_at-2.ensures)
-    (stopped c.args.source.version c.args.source.text.now c.loop-at.at (state (mode_of c.loop-at.next) c.loop-at.stack) within stands (λ low. absurd (omega arith)) (λ past. next_ends c.loop-at.next c.loop-at.stack))
+    (stopped c.args.source.version c.args.source.text.now c.loop-at.at
+    (state (mode_of c.loop-at.next) c.loop-at.stack) within stands (λ low. absurd (omega arith))
+    (λ past. next_ends c.loop-at.next c.loop-at.stack))

@@ -12,9 +12,15 @@ use Rattle.csn_treetext.proofs.steps.after_tree.Goals.{else-text-at-eq32-via-the
 
 pub returns-then-is_in_row : goal.returns-then-is_in_row
 returns-then-is_in_row c =
-    let e = led_on c.args.source.version c.args.source.text.now c.args.at (state Behind c.args.stack.now) (state Start c.args.stack.now) c.requires.within c.requires.stands
-    (ap (λ b. after_tree c.args.stack.now b) c.if-text-at-eq32.true ∙ behind_space c.args.stack.now (sym c.is_in_row.ensures ∙ c.if-is_in_row.true)) in
-    (omega arith, omega arith, room_reached c.args.source.version c.args.source.text.now (c.args.at + 1) Start c.args.stack.now (omega arith) c.requires.line e, led e)
+    let e = led_on c.args.source.version c.args.source.text.now c.args.at (state Behind c.args.stack.now)
+    (state Start c.args.stack.now) c.requires.within c.requires.stands
+    (ap (λ b. after_tree c.args.stack.now b) c.if-text-at-eq32.true ∙ behind_space c.args.stack.now (sym c.is_in_row.ensures ∙ c.if-is_in_row.true)) in (
+      omega arith,
+      omega arith,
+      room_reached c.args.source.version c.args.source.text.now (c.args.at + 1)
+          Start c.args.stack.now (omega arith) c.requires.line e,
+      led e,
+    )
 
 pub returns-then-text-at-ne93 : goal.returns-then-text-at-ne93
 returns-then-text-at-ne93 c =
@@ -23,7 +29,8 @@ returns-then-text-at-ne93 c =
     stopped c.args.source.version c.args.source.text.now c.args.at (state Behind stack) (omega arith) c.requires.stands
     (λ low. elim c.else-text-at-eq32.branch [
       | else-text-at-eq32-via-then-text-at-eq32+else-is_in_row w ↦ behind_no_row stack byte (sym w.is_in_row.ensures ∙ w.if-is_in_row.false)
-      | else-text-at-eq32-via-else-text-at-eq32 w ↦ behind_other stack byte (eqb-isnt byte 32 w.if-text-at-eq32.false) (eqb-isnt byte 93 c.if-text-at-ne93.true)
+      | else-text-at-eq32-via-else-text-at-eq32 w ↦ behind_other stack byte (eqb-isnt byte 32 w.if-text-at-eq32.false)
+          (eqb-isnt byte 93 c.if-text-at-ne93.true)
     ])
     (λ past. refl)
 
@@ -35,5 +42,6 @@ returns-in_default c =
 
 pub close-requires-clause-stands : goal.close-requires-clause-stands
 close-requires-clause-stands c =
-    led (led_on c.args.source.version c.args.source.text.now c.args.at (state Behind c.args.stack.now) (with_tree c.pop_row.new.self (row (trees_of c.in-Some.rows))) c.requires.within c.requires.stands
+    led (led_on c.args.source.version c.args.source.text.now c.args.at (state Behind c.args.stack.now)
+    (with_tree c.pop_row.new.self (row (trees_of c.in-Some.rows))) c.requires.within c.requires.stands
     (ap (λ b. after_tree c.args.stack.now b) c.if-text-at-ne93.false ∙ ap (λ s. after_tree s 93) c.in-Some.ensures))

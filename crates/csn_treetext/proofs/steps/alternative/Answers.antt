@@ -18,7 +18,10 @@ returns-then-not-stands_at c =
     let text = c.args.source.text.now in
     let stack = c.args.stack.now in
     let (number, end) = c.digits-number.result in
-    let e = numeral_led c.args.source.version text c.args.from _ _ _ end number Number stack c.from-most.ensures (number_grows c.args.source.version stack) (hash_first c.args.source.version text c.args.from _ stack c.requires.comes low) first c.digits-number.ensures.leads in
+    let e = numeral_led c.args.source.version text c.args.from _ _ _ end number Number stack c.from-most.ensures
+    (number_grows c.args.source.version stack)
+    (hash_first c.args.source.version text c.args.from _ stack c.requires.comes low)
+    first c.digits-number.ensures.leads in
     number_stops c.args.source.version text end number stack c.digits-number.ensures.within e
     (λ within. ap (λ m. grown m (Some number) (slice_index text end)) (sym c.from-most.ensures) ∙ c.digits-number.ensures.stops within)
     (c.if-not-stands_at.ensures.no refl)
@@ -29,7 +32,10 @@ returns c =
     let text = c.args.source.text.now in
     let stack = c.args.stack.now in
     let (number, end) = c.digits-number.result in
-    let e = numeral_led c.args.source.version text c.args.from _ _ _ end number Number stack c.from-most.ensures (number_grows c.args.source.version stack) (hash_first c.args.source.version text c.args.from _ stack c.requires.comes low) first c.digits-number.ensures.leads in
+    let e = numeral_led c.args.source.version text c.args.from _ _ _ end number Number stack c.from-most.ensures
+    (number_grows c.args.source.version stack)
+    (hash_first c.args.source.version text c.args.from _ stack c.requires.comes low)
+    first c.digits-number.ensures.leads in
     let (within, colon) = c.if-not-stands_at.ensures.yes refl in
     let begins = led (number_ends c.args.source.version text end number stack e within colon) in (
       omega arith,

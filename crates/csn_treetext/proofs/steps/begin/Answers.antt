@@ -9,20 +9,26 @@ use Rattle.csn_treetext.specs.reader.Reading.{Stands}
 use Rattle.csn_treetext.proofs.ReadingFacts.{led, led_on}
 use Rattle.csn_treetext.proofs.StopFacts.{begins_with, begins_not, inside_begins, inside_full, digit_begins, none_begins}
 use Rattle.csn_treetext.proofs.steps.begin.Goals as goal
-use Rattle.csn_treetext.proofs.steps.begin.Goals.{in_default-via-in-35+else-len-lt-MOST_ROUND, in_default-via-in-60+else-len-lt-MOST_ROUND-2, in_default-via-in_default+then-byte-lt49, in_default-via-in_default+else-byte-lt49+else-byte-lt58}
+use Rattle.csn_treetext.proofs.steps.begin.Goals.{in_default-via-in-35+else-len-lt-MOST_ROUND}
+use Rattle.csn_treetext.proofs.steps.begin.Goals.{in_default-via-in-60+else-len-lt-MOST_ROUND-2}
+use Rattle.csn_treetext.proofs.steps.begin.Goals.{in_default-via-in_default+then-byte-lt49}
+use Rattle.csn_treetext.proofs.steps.begin.Goals.{in_default-via-in_default+else-byte-lt49+else-byte-lt58}
 
 pub close-requires-clause-stands : goal.close-requires-clause-stands
 close-requires-clause-stands c =
-    led (begins_with c.args.source.version c.args.source.text.now c.args.at 46 c.args.stack.now (with_tree c.args.stack.now empty) c.requires.within c.requires.stands c.in-46.is refl)
+    led (begins_with c.args.source.version c.args.source.text.now c.args.at 46 c.args.stack.now
+    (with_tree c.args.stack.now empty) c.requires.within c.requires.stands c.in-46.is refl)
 
 pub alternative-requires-clause-comes : goal.alternative-requires-clause-comes
 alternative-requires-clause-comes c =
-    begins_with c.args.source.version c.args.source.text.now c.args.at 35 c.args.stack.now (state Hash c.args.stack.now) c.requires.within c.requires.stands c.in-35.is
+    begins_with c.args.source.version c.args.source.text.now c.args.at 35 c.args.stack.now
+    (state Hash c.args.stack.now) c.requires.within c.requires.stands c.in-35.is
     (inside_begins c.args.stack.now Hash (omega arith))
 
 pub name-requires-clause-comes : goal.name-requires-clause-comes
 name-requires-clause-comes c =
-    begins_with c.args.source.version c.args.source.text.now c.args.at 60 c.args.stack.now (state (Name [] Front) c.args.stack.now) c.requires.within c.requires.stands c.in-60.is
+    begins_with c.args.source.version c.args.source.text.now c.args.at 60 c.args.stack.now
+    (state (Name [] Front) c.args.stack.now) c.requires.within c.requires.stands c.in-60.is
     (inside_begins c.args.stack.now (Name [] Front) (omega arith))
 
 pub bit_digits-requires-clause-comes : goal.bit_digits-requires-clause-comes
@@ -33,7 +39,8 @@ bit_digits-requires-clause-comes c =
 pub close-requires-in-Second-clause-stands : goal.close-requires-in-Second-clause-stands
 close-requires-in-Second-clause-stands c =
     let stands = subst (λ v. Stands v c.args.source.text.now c.args.at (state Start c.args.stack.now)) c.in-Second.is c.requires.stands in
-    let whole = led (begins_with Second c.args.source.text.now c.args.at 98 c.args.stack.now (with_tree c.args.stack.now (bits [])) c.requires.within stands c.in-98.is refl) in
+    let whole = led (begins_with Second c.args.source.text.now c.args.at 98 c.args.stack.now
+    (with_tree c.args.stack.now (bits [])) c.requires.within stands c.in-98.is refl) in
     let leaf = sym (c.leaf.ensures ∙ ap bits c.new.ensures) in
     subst (λ v. Stands v c.args.source.text.now (c.args.at + 1) (with_tree c.args.stack.now c.leaf.result)) (sym c.in-Second.is)
     (subst (λ t. Stands Second c.args.source.text.now (c.args.at + 1) (with_tree c.args.stack.now t)) leaf whole)
@@ -41,7 +48,8 @@ close-requires-in-Second-clause-stands c =
 pub block_line-requires-clause-comes : goal.block_line-requires-clause-comes
 block_line-requires-clause-comes c =
     let stands = subst (λ v. Stands v c.args.source.text.now c.args.at (state Start c.args.stack.now)) c.in-Second-version.is c.requires.stands in
-    begins_with Second c.args.source.text.now c.args.at 120 c.args.stack.now (state (Octets [] None) c.args.stack.now) c.requires.within stands c.in-120.is refl
+    begins_with Second c.args.source.text.now c.args.at 120 c.args.stack.now (state (Octets [] None) c.args.stack.now)
+    c.requires.within stands c.in-120.is refl
 
 pub short_leaf-requires-clause-comes : goal.short_leaf-requires-clause-comes
 short_leaf-requires-clause-comes c =
@@ -54,7 +62,8 @@ returns-in-91 c = (
   omega arith,
   omega arith,
   c.requires.room,
-  led (begins_with c.args.source.version c.args.source.text.now c.args.at 91 c.args.stack.now (state Opened c.args.stack.now) c.requires.within c.requires.stands c.in-91.is refl),
+  led (begins_with c.args.source.version c.args.source.text.now c.args.at 91 c.args.stack.now
+      (state Opened c.args.stack.now) c.requires.within c.requires.stands c.in-91.is refl),
 )
 
 pub returns-in-First-version : goal.returns-in-First-version
@@ -70,6 +79,10 @@ returns-in_default c =
     (elim c.in_default.branch [
       | in_default-via-in-35+else-len-lt-MOST_ROUND w ↦ ap (begun c.args.source.version stack) w.in-35.is ∙ inside_full stack Hash (omega arith)
       | in_default-via-in-60+else-len-lt-MOST_ROUND-2 w ↦ ap (begun c.args.source.version stack) w.in-60.is ∙ inside_full stack (Name [] Front) (omega arith)
-      | in_default-via-in_default+then-byte-lt49 w ↦ none_begins c.args.source.version stack byte (λ e. omega arith) (λ e. omega arith) (λ e. omega arith) (λ e. omega arith) (λ e. omega arith) (λ e. omega arith) (inl (omega arith))
-      | in_default-via-in_default+else-byte-lt49+else-byte-lt58 w ↦ none_begins c.args.source.version stack byte (λ e. omega arith) (λ e. omega arith) (λ e. omega arith) (λ e. omega arith) (λ e. omega arith) (λ e. omega arith) (inr (omega arith))
+      | in_default-via-in_default+then-byte-lt49 w ↦ none_begins c.args.source.version stack byte (λ e. omega arith)
+          (λ e. omega arith) (λ e. omega arith) (λ e. omega arith) (λ e. omega arith) (λ e. omega arith)
+          (inl (omega arith))
+      | in_default-via-in_default+else-byte-lt49+else-byte-lt58 w ↦ none_begins c.args.source.version stack byte
+          (λ e. omega arith) (λ e. omega arith) (λ e. omega arith) (λ e. omega arith) (λ e. omega arith)
+          (λ e. omega arith) (inr (omega arith))
     ])

@@ -18,7 +18,8 @@ close-requires-clause-stands c =
     let (number, end) = c.digits-number.result in
     let text = c.args.source.text.now in
     let stack = c.args.stack.now in
-    let e = numeral_led c.args.source.version text c.args.from _ _ _ end number (Value c.args.width) stack c.greatest_of-most.ensures (value_grows c.args.source.version c.args.width stack)
+    let e = numeral_led c.args.source.version text c.args.from _ _ _ end number (Value c.args.width)
+    stack c.greatest_of-most.ensures (value_grows c.args.source.version c.args.width stack)
     (quote_first c.args.source.version text c.args.from c.args.width _ stack c.requires.comes low) first c.digits-number.ensures.leads in
     subst (λ t. Stands c.args.source.version text end (with_tree stack t)) (sym c.in_ok-tree.ensures)
     (value_closed c.args.source.version text end c.args.width number stack e

@@ -13,6 +13,7 @@ push_row-loop-at-preserved t c =
     let before : List ℕ = c.args.out.now.items in
     let gap = c.in_ok-push_gap.ensures in (
       c.in_ok-push_tree.ensures.text
-          ∙ wrote_on Second c.loop-at.out.items c.push_gap.new.out.items before c.args.rows.now c.loop-at.at tree c.get.ensures gap.first gap.later c.loop-at.invariant.0,
+          ∙ wrote_on Second c.loop-at.out.items c.push_gap.new.out.items before c.args.rows.now c.loop-at.at tree
+          c.get.ensures gap.first gap.later c.loop-at.invariant.0,
       have_next c.args.rows.now c.loop-at.at tree c.get.ensures c.loop-at.invariant.1 c.in_ok-push_tree.ensures.parts,
     )

@@ -21,7 +21,8 @@ loop-byte-preserved c =
             ap (λ v. v.items) w.octets-is ∙ w.in_ok-push.ensures.items ∙ ap (λ (os : List ℕ). os ++ w.in-Octet.octet ∷ []) c.loop-byte.invariant.given
             ∙ gives_octet (take i line) _ w.in-Octet.octet c.byte.result w.in-Octet.is given ∙ ap octets_given (sym more)
         | in_default w ↦
-            ap (λ v. v.items) w.octets-is ∙ c.loop-byte.invariant.given ∙ gives_nothing (take i line) _ c.byte.result w.in_default.is given ∙ ap octets_given (sym more)
+            ap (λ v. v.items) w.octets-is ∙ c.loop-byte.invariant.given
+            ∙ gives_nothing (take i line) _ c.byte.result w.in_default.is given ∙ ap octets_given (sym more)
       ];
       seen = c.byte.ensures.seen ∙ ap (λ (n : ℕ). n + 1) c.loop-byte.invariant.seen;
     }
@@ -29,13 +30,15 @@ loop-byte-preserved c =
 pub overflow_cast-len : goal.overflow_cast-len
 overflow_cast-len c =
     let count : c.len.result ≡ length c.loop-byte.octets.items = omega (arith, c.len.ensures) in
-    let few : c.len.result ≤ 65536 = kept_few (take c.loop-byte.byte-index c.args.line.now) c.loop-byte.octets.items c.len.result c.loop-byte.invariant.given count in
+    let few : c.len.result ≤ 65536 = kept_few (take c.loop-byte.byte-index c.args.line.now)
+    c.loop-byte.octets.items c.len.result c.loop-byte.invariant.given count in
     omega (arith, few)
 
 pub overflow_mul-len : goal.overflow_mul-len
 overflow_mul-len c =
     let count : c.len.result ≡ length c.loop-byte.octets.items = omega (arith, c.len.ensures) in
-    let few : c.len.result ≤ 65536 = kept_few (take c.loop-byte.byte-index c.args.line.now) c.loop-byte.octets.items c.len.result c.loop-byte.invariant.given count in
+    let few : c.len.result ≤ 65536 = kept_few (take c.loop-byte.byte-index c.args.line.now)
+    c.loop-byte.octets.items c.len.result c.loop-byte.invariant.given count in
     omega (arith, few)
 
 pub overflow_add-len : goal.overflow_add-len
@@ -63,7 +66,8 @@ returns-in_ok-push-in-Last-clause-ok c =
     let count : c.len.result ≡ length c.loop-byte.octets.items = omega (arith, c.len.ensures) in
     let line : List ℕ = take c.loop-byte.byte-index c.args.line.now in
     let whole : line ≡ c.args.line.now = take_all c.loop-byte.byte-index c.args.line.now c.loop-byte-test.false in
-    line_kept line c.args.line.now _ _ _ _ _ whole c.loop-byte.invariant.given c.in_ok-push-in-Last.ensures.items count (c.in-Last.ensures.ends line c.loop-byte.invariant.fed)
+    line_kept line c.args.line.now _ _ _ _ _ whole c.loop-byte.invariant.given c.in_ok-push-in-Last.ensures.items
+    count (c.in-Last.ensures.ends line c.loop-byte.invariant.fed)
 
 pub returns-in-Fault-clause-refused : goal.returns-in-Fault-clause-refused
 returns-in-Fault-clause-refused c =

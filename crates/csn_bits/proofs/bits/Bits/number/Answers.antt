@@ -16,7 +16,8 @@ returns c =
     ap (λ (l : List ℕ). length l) (sym c.self.view_is) ∙ length-packed c.self.inside.octets.items c.self.inside.len c.self.invariant in
     let all = length-bits_of_octets octets in
     let behind : 8 * length octets - c.self.inside.len ≡ length (bits_of_octets octets) - length bits = omega (arith, all, count) in
-    let first = number_of-first (bits_of_octets octets) (length bits) (IsBits-bits_of_octets octets small) (omega (arith, all, c.octets-octets.ensures.count)) in
+    let first = number_of-first (bits_of_octets octets) (length bits) (IsBits-bits_of_octets octets small)
+    (omega (arith, all, c.octets-octets.ensures.count)) in
     ap (λ n. n / 2 ^ (8 * length octets - c.self.inside.len)) c.octets_number.ensures
     ∙ ap (λ k. number_of (bits_of_octets octets) / 2 ^ k) behind
     ∙ first

@@ -27,11 +27,17 @@ returns c =
     record {
       fed = λ line fed. record {
         seen = omega (arith, fed.seen, length-append line digits, n);
-        keeps = rw held (holds_pairs line digits c.args.self.now.stage c.args.self.now.waiting c.args.self.now.last fed.keeps c.in-Digits-None.is-0 c.in-Digits-None.is-1 all waits (get_or (first ∷ (decoded ++ rest)) count 0) last);
+        keeps = rw held (holds_pairs line digits c.args.self.now.stage c.args.self.now.waiting c.args.self.now.last
+            fed.keeps c.in-Digits-None.is-0 c.in-Digits-None.is-1 all waits
+            (get_or (first ∷ (decoded ++ rest)) count 0) last);
       };
       given = λ line fed. elim c.match-replace.branch [
-        | in-Some w ↦ rw (w.room-is, w.from-is, half, put, behind w.in-Some.octet) (given_more_pairs line digits _ _ _ fed.keeps c.in-Digits-None.is-0 c.in-Digits-None.is-1 all waits w.in-Some.octet (sym w.in-Some.ensures.value) (omega (arith, n)) (omega (arith, fed.seen, n, bounded)))
-        | in-None w ↦ rw (w.room-is, w.from-is, half, put, behind first) (given_first_pairs line digits _ _ _ fed.keeps c.in-Digits-None.is-0 c.in-Digits-None.is-1 all waits (sym w.in-None.ensures.value) (omega (arith, n)) (omega (arith, fed.seen, n, bounded)))
+        | in-Some w ↦ rw (w.room-is, w.from-is, half, put, behind w.in-Some.octet)
+            (given_more_pairs line digits _ _ _ fed.keeps c.in-Digits-None.is-0 c.in-Digits-None.is-1 all waits
+            w.in-Some.octet (sym w.in-Some.ensures.value) (omega (arith, n)) (omega (arith, fed.seen, n, bounded)))
+        | in-None w ↦ rw (w.room-is, w.from-is, half, put, behind first)
+            (given_first_pairs line digits _ _ _ fed.keeps c.in-Digits-None.is-0 c.in-Digits-None.is-1 all waits
+            (sym w.in-None.ensures.value) (omega (arith, n)) (omega (arith, fed.seen, n, bounded)))
       ];
       seen = omega arith;
       some = omega (arith, c.if-count-eq0.false);

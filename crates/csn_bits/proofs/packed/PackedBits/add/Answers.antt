@@ -28,7 +28,16 @@ loop-left-preserved c =
 
 pub invariant_of-self : goal.invariant_of-self
 invariant_of-self c =
-    record { few = omega (arith, ap (λ l. length l) (c.in_err-push.ensures).items, c.loop-left.invariant.0, c.loop-left-test.true); part = c.loop-left.invariant.3 }
+    record {
+      few = omega (
+        arith,
+        ap (λ l. length l) (c.in_err-push.ensures).items,
+        c.loop-left.invariant.0,
+        c.loop-left-test.true,
+      );
+      part = c.loop-left.invariant.3;
+    }
 
 pub returns-clause-ok : goal.returns-clause-ok
-returns-clause-ok c = ap (λ l. bits_of_octets c.loop-left.self-inside.octets.items ++ l) (few_left c.loop-left.left _ (omega (arith, c.loop-left-test.false))) ∙ c.loop-left.invariant.2
+returns-clause-ok c = ap (λ l. bits_of_octets c.loop-left.self-inside.octets.items ++ l)
+    (few_left c.loop-left.left _ (omega (arith, c.loop-left-test.false))) ∙ c.loop-left.invariant.2

@@ -20,7 +20,8 @@ written c =
     let node : NodeV = node_of c c.node.inside.positions.items in
     let some : 0 < length c.self.inside.nodes.items = omega (arith, c.requires.node, ap length c.self.view_is) in
     ap (λ ps. set c.self.inside.nodes.items (c.len-last.result - 1) (node_of c ps)) pushed
-    ∙ written_with_position c.self.inside.nodes.items c.len-last.result c.index_mut-node.result.now node (added c) (c.len-last.ensures ∙ c.self.inside.nodes.ok.0) some c.index_mut-node.ensures.value c.node.view_is
+    ∙ written_with_position c.self.inside.nodes.items c.len-last.result c.index_mut-node.result.now node (added c)
+    (c.len-last.ensures ∙ c.self.inside.nodes.ok.0) some c.index_mut-node.ensures.value c.node.view_is
     ∙ ap (with_position (added c)) c.self.view_is
 
 pub returns-clause-ok : goal.returns-clause-ok
@@ -30,4 +31,5 @@ pub invariant_of-self-2 : goal.invariant_of-self-2
 invariant_of-self-2 c =
     let low : c.args.ends ≤ 255 = omega (arith, c.ranges.ends.fits) in
     let is : IsPosition (added c) = record { octet = c.requires.octet; ends = low; start = c.requires.start; patterns = tt; rising = tt } in
-    subst IsCertificate (sym (written c)) (position_pushed c.args.self.now (added c) (subst IsCertificate c.self.view_is c.self.invariant) is c.requires.rising)
+    subst IsCertificate (sym (written c)) (position_pushed c.args.self.now (added c)
+    (subst IsCertificate c.self.view_is c.self.invariant) is c.requires.rising)

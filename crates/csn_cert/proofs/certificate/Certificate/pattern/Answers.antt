@@ -12,13 +12,19 @@ some_position old now same some = let P : List NodeV → Type 0 = λ c. IsSome (
 pub overflow_sub-last-2 : goal.overflow_sub-last-2
 overflow_sub-last-2 c =
     let node : NodeV = record { nullable = c.node.inside.nullable; follow = c.node.inside.follow; positions = c.node.inside.positions.items } in
-    let some : 0 < length c.node.inside.positions.items = positions_within c.self.inside.nodes.items c.len-last.result c.index_mut-node.result.now node (c.len-last.ensures ∙ c.self.inside.nodes.ok.0) c.index_mut-node.ensures.value c.node.view_is (some_position c.self.inside.nodes.items c.args.self.now c.self.view_is c.requires.position) in
+    let some : 0 < length c.node.inside.positions.items = positions_within c.self.inside.nodes.items c.len-last.result
+    c.index_mut-node.result.now node (c.len-last.ensures ∙ c.self.inside.nodes.ok.0)
+    c.index_mut-node.ensures.value c.node.view_is
+    (some_position c.self.inside.nodes.items c.args.self.now c.self.view_is c.requires.position) in
     omega (arith, some, c.len-last-2.ensures, c.node.inside.positions.ok.0)
 
 pub index_mut-position-requires : goal.index_mut-position-requires
 index_mut-position-requires c =
     let node : NodeV = record { nullable = c.node.inside.nullable; follow = c.node.inside.follow; positions = c.node.inside.positions.items } in
-    let some : 0 < length c.node.inside.positions.items = positions_within c.self.inside.nodes.items c.len-last.result c.index_mut-node.result.now node (c.len-last.ensures ∙ c.self.inside.nodes.ok.0) c.index_mut-node.ensures.value c.node.view_is (some_position c.self.inside.nodes.items c.args.self.now c.self.view_is c.requires.position) in
+    let some : 0 < length c.node.inside.positions.items = positions_within c.self.inside.nodes.items c.len-last.result
+    c.index_mut-node.result.now node (c.len-last.ensures ∙ c.self.inside.nodes.ok.0)
+    c.index_mut-node.ensures.value c.node.view_is
+    (some_position c.self.inside.nodes.items c.args.self.now c.self.view_is c.requires.position) in
     omega (arith, some, c.len-last-2.ensures, c.node.inside.positions.ok.0)
 
 -- the position as it was read, with other patterns
@@ -29,11 +35,21 @@ position_of c patterns = record { octet = c.position.inside.octet; ends = c.posi
 abbrev node_of : In_ok-push → List PositionV → NodeV
 node_of c positions = record { nullable = c.node.inside.nullable; follow = c.node.inside.follow; positions = positions }
 
-written : (c : In_ok-push) → set c.self.inside.nodes.items (c.len-last.result - 1) (node_of c (set c.node.inside.positions.items (c.len-last-2.result - 1) (position_of c c.push.new.self.items))) ≡ with_pattern c.args.pattern c.args.self.now
+written : (c : In_ok-push)
+    → set c.self.inside.nodes.items (c.len-last.result - 1)
+    (node_of c (set c.node.inside.positions.items (c.len-last-2.result - 1) (position_of c c.push.new.self.items)))
+    ≡ with_pattern c.args.pattern c.args.self.now
 written c =
-    ap (λ ks. set c.self.inside.nodes.items (c.len-last.result - 1) (node_of c (set c.node.inside.positions.items (c.len-last-2.result - 1) (position_of c ks)))) c.in_ok-push.ensures.items
-    ∙ written_with_pattern c.self.inside.nodes.items c.len-last.result c.index_mut-node.result.now (node_of c c.node.inside.positions.items) c.len-last-2.result c.index_mut-position.result.now (position_of c c.position.inside.patterns.items) c.args.pattern
-    (c.len-last.ensures ∙ c.self.inside.nodes.ok.0) (some_position c.self.inside.nodes.items c.args.self.now c.self.view_is c.requires.position) c.index_mut-node.ensures.value c.node.view_is (c.len-last-2.ensures ∙ c.node.inside.positions.ok.0) c.index_mut-position.ensures.value c.position.view_is
+    ap (λ ks. set c.self.inside.nodes.items (c.len-last.result - 1)
+    (node_of c (set c.node.inside.positions.items (c.len-last-2.result - 1) (position_of c ks))))
+    c.in_ok-push.ensures.items
+    ∙ written_with_pattern c.self.inside.nodes.items c.len-last.result c.index_mut-node.result.now
+    (node_of c c.node.inside.positions.items) c.len-last-2.result c.index_mut-position.result.now
+    (position_of c c.position.inside.patterns.items) c.args.pattern
+    (c.len-last.ensures ∙ c.self.inside.nodes.ok.0)
+    (some_position c.self.inside.nodes.items c.args.self.now c.self.view_is c.requires.position)
+    c.index_mut-node.ensures.value c.node.view_is (c.len-last-2.ensures ∙ c.node.inside.positions.ok.0)
+    c.index_mut-position.ensures.value c.position.view_is
     ∙ ap (with_pattern c.args.pattern) c.self.view_is
 
 pub returns-clause-ok : goal.returns-clause-ok
@@ -42,4 +58,5 @@ returns-clause-ok c = written c
 pub invariant_of-self-2 : goal.invariant_of-self-2
 invariant_of-self-2 c =
     let is : IsPattern c.args.pattern = omega (arith, c.len.ensures.count, c.len.ensures.few) in
-    subst IsCertificate (sym (written c)) (pattern_pushed c.args.self.now c.args.pattern (subst IsCertificate c.self.view_is c.self.invariant) is c.requires.rising)
+    subst IsCertificate (sym (written c)) (pattern_pushed c.args.self.now c.args.pattern
+    (subst IsCertificate c.self.view_is c.self.invariant) is c.requires.rising)

@@ -16,7 +16,9 @@ loop-j-preserved c =
       | in-None w ↦ subst P (sym w.width-is) (deep_null d parts octet j c.loop-j.width w.in-None.ensures c.loop-j.invariant.0, c.loop-j.invariant.1)
       | in-Some w ↦
           subst P (sym w.width-is) (
-            deep_more d parts octet j c.loop-j.width w.widened-width.result w.widened-width.result w.in-Some.table.now w.new.result w.new.ensures w.in-Some.ensures w.widened-width.ensures.deep w.widened-width.ensures.wider (omega arith) c.loop-j.invariant.0,
+            deep_more d parts octet j c.loop-j.width w.widened-width.result w.widened-width.result w.in-Some.table.now
+                w.new.result w.new.ensures w.in-Some.ensures w.widened-width.ensures.deep
+                w.widened-width.ensures.wider (omega arith) c.loop-j.invariant.0,
             w.widened-width.ensures.most,
           )
     ]

@@ -11,4 +11,5 @@ bounds-entries-place c =
 
 pub returns-clause-put : goal.returns-clause-put
 returns-clause-put c =
-    put_fills c.args.self.now.width c.args.word.now c.args.entry c.args.entries.now c.place.result c.requires.size c.requires.word c.requires.within c.place.ensures.value
+    put_fills c.args.self.now.width c.args.word.now c.args.entry c.args.entries.now c.place.result c.requires.size
+    c.requires.word c.requires.within c.place.ensures.value

@@ -12,9 +12,13 @@ returns-else-self c =
 
 pub returns-then-starts : goal.returns-then-starts
 returns-then-starts c =
-    λ node at. many_again c.args.self.now.desc.now at c.get.result c.args.self.now.held.now (omega (arith, c.len.ensures.count, c.if-len-eq0.false)) c.get.ensures.value (c.starts.ensures.0 c.if-starts.true)
+    λ node at. many_again c.args.self.now.desc.now at c.get.result c.args.self.now.held.now
+    (omega (arith, c.len.ensures.count, c.if-len-eq0.false)) c.get.ensures.value
+    (c.starts.ensures.0 c.if-starts.true)
 
 pub returns-else-starts : goal.returns-else-starts
 returns-else-starts c =
     let absent = c.if-starts.false in
-    λ node at. many_leaves c.args.self.now.desc.now at c.get.result c.args.self.now.held.now (omega (arith, c.len.ensures.count, c.if-len-eq0.false)) c.get.ensures.value (λ start. let starts = c.starts.ensures.1 start in cc)
+    λ node at. many_leaves c.args.self.now.desc.now at c.get.result c.args.self.now.held.now
+    (omega (arith, c.len.ensures.count, c.if-len-eq0.false)) c.get.ensures.value (λ start. let starts =
+    c.starts.ensures.1 start in cc)

@@ -19,4 +19,5 @@ returns-else-len-eq0 c =
     let is = c.if-len-eq0.false in
     let some : 0 < length c.args.self.now.held.now = omega arith in
     let P : Option ℕ → Type 0 = λ sign. IsTrue c.may_follow.result ↔ InFollow d c.args.node octet sign in
-    behind_first d c.may_follow.result c.get.result c.args.self.now.held.now some c.get.ensures.value (subst P c.sign_of-first.ensures (c.may_follow.ensures d c.requires.ready.plan.follow))
+    behind_first d c.may_follow.result c.get.result c.args.self.now.held.now some c.get.ensures.value
+    (subst P c.sign_of-first.ensures (c.may_follow.ensures d c.requires.ready.plan.follow))

@@ -8,7 +8,8 @@ returns-then-stands_behind c =
 pub returns-else-stands_behind : goal.returns-else-stands_behind
 returns-else-stands_behind c =
     let absent = c.if-stands_behind.false in
-    λ parts at h. untaken c.args.self.now.desc.now at h c.untaken.result c.untaken.ensures (λ i takes. let behind = c.stands_behind.ensures.1 takes.behind in cc)
+    λ parts at h. untaken c.args.self.now.desc.now at h c.untaken.result c.untaken.ensures (λ i takes. let behind =
+    c.stands_behind.ensures.1 takes.behind in cc)
 
 pub returns-in-None : goal.returns-in-None
 returns-in-None c =

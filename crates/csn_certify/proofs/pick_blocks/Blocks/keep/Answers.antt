@@ -12,12 +12,16 @@ returns-clause-kept c =
 
 pub returns-clause-more : goal.returns-clause-more
 returns-clause-more c =
-    let h = behind (λ block. block.entries.items) c.self.inside.blocks.keys c.insert_full.new.self.keys c.args.block (list_any (λ t. pointwise same_entry c.args.block.entries.items t.entries.items) c.self.inside.blocks.keys) c.in_ok-at.ensures.keys in
+    let h = behind (λ block. block.entries.items) c.self.inside.blocks.keys c.insert_full.new.self.keys c.args.block
+    (list_any (λ t. pointwise same_entry c.args.block.entries.items t.entries.items) c.self.inside.blocks.keys)
+    c.in_ok-at.ensures.keys in
     (h.0, h.1 ∙ ap (λ l. l ++ h.0) c.self.view_is)
 
 pub returns-then-at-clause-more : goal.returns-then-at-clause-more
 returns-then-at-clause-more c =
-    let h = behind (λ block. block.entries.items) c.self.inside.blocks.keys c.insert_full.new.self.keys c.args.block (list_any (λ t. pointwise same_entry c.args.block.entries.items t.entries.items) c.self.inside.blocks.keys) c.in_ok-at.ensures.keys in
+    let h = behind (λ block. block.entries.items) c.self.inside.blocks.keys c.insert_full.new.self.keys c.args.block
+    (list_any (λ t. pointwise same_entry c.args.block.entries.items t.entries.items) c.self.inside.blocks.keys)
+    c.in_ok-at.ensures.keys in
     (h.0, h.1 ∙ ap (λ l. l ++ h.0) c.self.view_is)
 
 pub returns-clause-once : goal.returns-clause-once

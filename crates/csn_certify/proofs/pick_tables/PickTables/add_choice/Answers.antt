@@ -54,7 +54,8 @@ number-requires-clause-octet c = omega (arith, c.loop-octet-test.true)
 
 pub number-requires-clause-reached : goal.number-requires-clause-reached
 number-requires-clause-reached c =
-    (c.reached.ensures c.args.known.now.desc.now c.requires.known.reached c.loop-octet.octet (omega (arith, c.loop-octet-test.true))).0 (sym c.has.ensures ∙ c.if-has.true)
+    (c.reached.ensures c.args.known.now.desc.now c.requires.known.reached c.loop-octet.octet
+    (omega (arith, c.loop-octet-test.true))).0 (sym c.has.ensures ∙ c.if-has.true)
 
 pub put-requires : goal.put-requires
 put-requires c =

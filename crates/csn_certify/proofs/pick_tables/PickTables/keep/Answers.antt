@@ -41,7 +41,8 @@ invariant_of-self-2 c =
     let more = c.keep_all.ensures.more in
     let filled = c.args.filled in
     let t : KeptTable = record { none = filled.none; width = filled.width; first = c.first_of.result; index = c.in_ok-index.index } in
-    let first = subst (λ (l : List Entry). AreFirstBlocks l ((length l + 63) / 64) c.in_ok-index.index.items c.keep_all.new.self) c.as_slice.ensures.value c.in_ok-index.ensures.kept in
+    let first = subst (λ (l : List Entry). AreFirstBlocks l ((length l + 63) / 64)
+    c.in_ok-index.index.items c.keep_all.new.self) c.as_slice.ensures.value c.in_ok-index.ensures.kept in
     let front = subst (λ (l : List Entry). AreFirstEntries l c.first_of.result) c.as_slice-2.ensures.value c.first_of.ensures in
     subst (λ (l : List KeptTable). AreWithin c.keep_all.new.self l) (sym c.in_ok-push.ensures.items)
     (within_more c.keep_all.new.self c.self.inside.tables.items t
@@ -52,9 +53,11 @@ pub returns-clause-number : goal.returns-clause-number
 returns-clause-number c =
     let filled = c.args.filled in
     let t : KeptTable = record { none = filled.none; width = filled.width; first = c.first_of.result; index = c.in_ok-index.index } in
-    let first = subst (λ (l : List Entry). AreFirstBlocks l ((length l + 63) / 64) c.in_ok-index.index.items c.keep_all.new.self) c.as_slice.ensures.value c.in_ok-index.ensures.kept in (
+    let first = subst (λ (l : List Entry). AreFirstBlocks l ((length l + 63) / 64)
+    c.in_ok-index.index.items c.keep_all.new.self) c.as_slice.ensures.value c.in_ok-index.ensures.kept in (
       table_in c.keep_all.new.self t,
-      last_table c.keep_all.new.self c.self.inside.tables.items c.push.new.self.items t c.len-number.result c.in_ok-push.ensures.items (omega (arith, c.len-number.ensures, c.self.inside.tables.ok.0)),
+      last_table c.keep_all.new.self c.self.inside.tables.items c.push.new.self.items t c.len-number.result
+          c.in_ok-push.ensures.items (omega (arith, c.len-number.ensures, c.self.inside.tables.ok.0)),
       kept_table filled t c.keep_all.new.self c.requires refl refl first,
     )
 
@@ -64,5 +67,7 @@ returns-clause-more c =
     let filled = c.args.filled in
     let t : KeptTable = record { none = filled.none; width = filled.width; first = c.first_of.result; index = c.in_ok-index.index } in (
       table_in c.keep_all.new.self t ∷ [],
-      tables_more c.self.inside.blocks c.keep_all.new.self more.0 c.self.inside.tables.items c.push.new.self.items t c.args.self.now.tables more.1 c.self.invariant (ap (λ v. v.tables) c.self.view_is) c.in_ok-push.ensures.items,
+      tables_more c.self.inside.blocks c.keep_all.new.self more.0 c.self.inside.tables.items c.push.new.self.items t
+          c.args.self.now.tables more.1 c.self.invariant (ap (λ v. v.tables) c.self.view_is)
+          c.in_ok-push.ensures.items,
     )

@@ -19,7 +19,8 @@ returns-clause-number c =
     let d = c.args.known.now.desc.now in
     let parts = c.args.parts.now in
     let filled = c.in_ok-table.field-0 in
-    IfOk-weaker c.keep.result (λ (number : ℕ). (t : PickTableV) × (slice_get c.keep.new.self.tables number ≡ Some t) × IsTableOf filled t) (λ (number : ℕ). HasNumber d parts c.args.octet c.keep.new.self.tables number)
+    IfOk-weaker c.keep.result (λ (number : ℕ). (t : PickTableV) × (slice_get c.keep.new.self.tables number ≡ Some t)
+    × IsTableOf filled t) (λ (number : ℕ). HasNumber d parts c.args.octet c.keep.new.self.tables number)
     (λ number h. (h.0, h.1, kept_tells d parts c.args.octet filled h.0 c.in_ok-table.ensures h.2))
     c.keep.ensures.number
 

@@ -17,7 +17,8 @@ bounds-as_slice-place c =
     let d = c.args.known.now.desc.now in
     let inside = slice_get_within d.nodes c.args.node (Choice c.args.parts.now) c.requires.choice in
     let size = c.requires.before.size in
-    let items : length c.as_slice.result.now ≡ length c.args.self.now.numbers = ap length c.as_slice.ensures.value ∙ ap (λ v. length v.numbers) c.self.view_is in
+    let items : length c.as_slice.result.now ≡ length c.args.self.now.numbers = ap length c.as_slice.ensures.value
+    ∙ ap (λ v. length v.numbers) c.self.view_is in
     let place = c.place.ensures in
     let less = c.loop-other-test.true in
     let small = c.requires.octet in
@@ -35,10 +36,12 @@ returns-then-have_same_keys c =
     let reached = (c.reached.ensures d c.requires.known.reached other (omega arith)).0 (sym c.has.ensures ∙ c.if-has.true) in
     let h = c.requires.before.tables node other parts (omega arith) (omega arith) c.requires.choice reached in
     let read : slice_index c.as_slice.result.now c.place.result ≡ slice_index c.args.self.now.numbers (8 * node + other) =
-    ap (λ l. slice_index l c.place.result) c.as_slice.ensures.value ∙ ap (λ v. slice_index v.numbers c.place.result) c.self.view_is ∙ ap (λ n. slice_index c.args.self.now.numbers n) c.place.ensures in (
+    ap (λ l. slice_index l c.place.result) c.as_slice.ensures.value ∙ ap (λ v. slice_index v.numbers c.place.result)
+    c.self.view_is ∙ ap (λ n. slice_index c.args.self.now.numbers n) c.place.ensures in (
       h.0,
       ap (λ n. slice_get c.args.self.now.tables n) read ∙ h.1,
-      table_shared d c.args.known.now.look.now parts c.args.octet other c.requires.known.keys below c.requires.octet (omega arith) (c.have_same_keys.ensures c.if-have_same_keys.true) h.0 h.2,
+      table_shared d c.args.known.now.look.now parts c.args.octet other c.requires.known.keys below c.requires.octet
+          (omega arith) (c.have_same_keys.ensures c.if-have_same_keys.true) h.0 h.2,
     )
 
 pub reached-requires : goal.reached-requires

@@ -6,7 +6,8 @@ use Rattle.csn_certify.proofs.search.Search.choice_clash.Goals as goal
 pub returns-in-Some : goal.returns-in-Some
 returns-in-Some c =
     let d = c.args.self.now.desc.now in
-    found_at d (c.args.choice.now.node ∷ 3 ∷ []) c.loop-octet.octet c.in-Some.conflict (branch_at (c.args.choice.now.node ∷ 3 ∷ []) refl) c.loop-octet.invariant
+    found_at d (c.args.choice.now.node ∷ 3 ∷ []) c.loop-octet.octet c.in-Some.conflict
+    (branch_at (c.args.choice.now.node ∷ 3 ∷ []) refl) c.loop-octet.invariant
     (known_some d (c.args.choice.now.node ∷ 3 ∷ c.loop-octet.octet ∷ []) c.in_ok-conflict.field-0 c.in-Some.conflict c.in-Some.is c.in_ok-conflict.ensures)
 
 pub loop-octet-preserved : goal.loop-octet-preserved
@@ -16,4 +17,5 @@ loop-octet-preserved c =
     (known_none d (c.args.choice.now.node ∷ 3 ∷ c.loop-octet.octet ∷ []) c.in_ok-conflict.field-0 c.in_default.is c.in_ok-conflict.ensures)
 
 pub returns : goal.returns
-returns c = octets_end c.args.self.now.desc.now c.args.choice.now.node c.args.choice.now.parts.now c.requires.choice c.loop-octet.octet (omega (arith, c.loop-octet-test.false)) c.loop-octet.invariant
+returns c = octets_end c.args.self.now.desc.now c.args.choice.now.node c.args.choice.now.parts.now c.requires.choice
+    c.loop-octet.octet (omega (arith, c.loop-octet-test.false)) c.loop-octet.invariant

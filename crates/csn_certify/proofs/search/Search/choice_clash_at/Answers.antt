@@ -10,8 +10,10 @@ use Rattle.csn_certify.proofs.search.Search.choice_clash_at.Goals as goal
 pub returns-then-not-has : goal.returns-then-not-has
 returns-then-not-has c =
     let d = c.args.self.now.desc.now in
-    let there = reached_there d c.args.choice.now.node c.args.octet c.reached.result c.has.result (c.reached.ensures d c.requires.known.reached) c.requires.octet c.has.ensures in
-    not_reached d c.args.choice.now.node c.args.choice.now.parts.now c.requires.choice c.args.octet (denied c.has.result (Reached d c.args.choice.now.node c.args.octet) there c.if-not-has.true)
+    let there = reached_there d c.args.choice.now.node c.args.octet c.reached.result c.has.result
+    (c.reached.ensures d c.requires.known.reached) c.requires.octet c.has.ensures in
+    not_reached d c.args.choice.now.node c.args.choice.now.parts.now c.requires.choice c.args.octet
+    (denied c.has.result (Reached d c.args.choice.now.node c.args.octet) there c.if-not-has.true)
 
 pub returns-in-Some : goal.returns-in-Some
 returns-in-Some c =
@@ -28,7 +30,8 @@ returns c =
 pub empty_clash-requires-clause-reached : goal.empty_clash-requires-clause-reached
 empty_clash-requires-clause-reached c =
     let d = c.args.self.now.desc.now in
-    let there = reached_there d c.args.choice.now.node c.args.octet c.reached.result c.has.result (c.reached.ensures d c.requires.known.reached) c.requires.octet c.has.ensures in
+    let there = reached_there d c.args.choice.now.node c.args.octet c.reached.result c.has.result
+    (c.reached.ensures d c.requires.known.reached) c.requires.octet c.has.ensures in
     there.0 c.if-not-has.false
 
 pub reached-requires : goal.reached-requires
@@ -39,5 +42,6 @@ reached-requires c =
 pub overlap-requires-clause-reached : goal.overlap-requires-clause-reached
 overlap-requires-clause-reached c =
     let d = c.args.self.now.desc.now in
-    let there = reached_there d c.args.choice.now.node c.args.octet c.reached.result c.has.result (c.reached.ensures d c.requires.known.reached) c.requires.octet c.has.ensures in
+    let there = reached_there d c.args.choice.now.node c.args.octet c.reached.result c.has.result
+    (c.reached.ensures d c.requires.known.reached) c.requires.octet c.has.ensures in
     there.0 c.if-not-has.false

@@ -24,4 +24,6 @@ returns-in_err-bit c =
 
 pub returns : goal.returns
 returns c =
-    clash_some c.args.self.now.desc.now c.args.choice.now.node c.args.choice.now.parts.now c.requires.choice c.args.octet c.in_ok-first_null.field-0 c.in_ok-bit.bit c.requires.reached c.in_ok-first_null.ensures.least.1 c.in_ok-bit.ensures
+    clash_some c.args.self.now.desc.now c.args.choice.now.node c.args.choice.now.parts.now c.requires.choice
+    c.args.octet c.in_ok-first_null.field-0 c.in_ok-bit.bit c.requires.reached c.in_ok-first_null.ensures.least.1
+    c.in_ok-bit.ensures

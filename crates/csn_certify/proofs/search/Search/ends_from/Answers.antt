@@ -5,7 +5,8 @@ use Rattle.csn_certify.proofs.search.Search.ends_from.Goals as goal
 pub returns-else-has : goal.returns-else-has
 returns-else-has c =
     let d = c.args.self.now.desc.now in
-    let there = reached_there d c.args.node c.args.from c.reached.result c.has.result (c.reached.ensures d c.requires.known.reached) c.requires.octet c.has.ensures in
+    let there = reached_there d c.args.node c.args.from c.reached.result c.has.result
+    (c.reached.ensures d c.requires.known.reached) c.requires.octet c.has.ensures in
     ends_nowhere d c.args.node c.empty.result c.args.from (denied c.has.result (Reached d c.args.node c.args.from) there c.if-has.false) c.empty.ensures
 
 pub reached-requires : goal.reached-requires

@@ -12,7 +12,8 @@ returns-in-Some c =
     let lists = c.in_ok-keys.ensures.keys d c.requires.known.keys in
     let are = only_key c.in_ok-only.only c.add.new.self c.args.word.now c.in_ok-only.ensures c.in_ok-add.ensures.added in
     subst (λ (w : List ℕ). IsFirstBegun d c.args.octet c.args.part c.args.word.now (Some w)) (sym c.copy.ensures)
-    (begun_some d c.args.octet c.args.part keys lists c.add.new.self c.args.word.now c.requires.word are c.in-Some.at c.get.result.now c.in-Some.ensures c.get.ensures)
+    (begun_some d c.args.octet c.args.part keys lists c.add.new.self c.args.word.now c.requires.word are c.in-Some.at
+    c.get.result.now c.in-Some.ensures c.get.ensures)
 
 pub returns : goal.returns
 returns c =

@@ -9,7 +9,9 @@ pub returns-then-has-is_followed : goal.returns-then-has-is_followed
 returns-then-has-is_followed c =
     let d = c.args.self.now.desc.now in
     let octet = c.loop-octet.octet in
-    let may = both_hold d c.args.node octet c.ends_of-ends.result c.has.result c.is_followed.result c.ends_of-ends.ensures (omega (arith, c.loop-octet-test.true)) c.has.ensures c.is_followed.ensures c.if-has-is_followed.true in
+    let may = both_hold d c.args.node octet c.ends_of-ends.result c.has.result c.is_followed.result
+    c.ends_of-ends.ensures (omega (arith, c.loop-octet-test.true)) c.has.ensures c.is_followed.ensures
+    c.if-has-is_followed.true in
     last_found d c.args.node c.requires.last octet may.0 may.1 c.loop-octet.invariant
 
 pub loop-octet-preserved : goal.loop-octet-preserved
@@ -18,7 +20,8 @@ loop-octet-preserved c =
     let octet = c.loop-octet.octet in
     none_more d (c.args.node ∷ 3 ∷ []) octet c.loop-octet.invariant
     (last_none d c.args.node c.requires.last octet
-    (not_both d c.args.node octet c.ends_of-ends.result c.has.result c.is_followed.result c.ends_of-ends.ensures (omega (arith, c.loop-octet-test.true)) c.has.ensures c.is_followed.ensures c.if-has-is_followed.false))
+    (not_both d c.args.node octet c.ends_of-ends.result c.has.result c.is_followed.result c.ends_of-ends.ensures
+    (omega (arith, c.loop-octet-test.true)) c.has.ensures c.is_followed.ensures c.if-has-is_followed.false))
 
 pub returns : goal.returns
 returns c = lasts_end c.args.self.now.desc.now c.args.node c.requires.last c.loop-octet.octet (omega (arith, c.loop-octet-test.false)) c.loop-octet.invariant

@@ -18,7 +18,8 @@ pub returns-in-Seq : goal.returns-in-Seq
 returns-in-Seq c = plain_is c.args.self.now.desc.now c.args.node c.node.result.now (Seq c.in-Seq.field-0) c.node.ensures c.in-Seq.is tt
 
 pub returns-in-Window : goal.returns-in-Window
-returns-in-Window c = plain_is c.args.self.now.desc.now c.args.node c.node.result.now (Window c.in-Window.unit c.in-Window.count c.in-Window.part) c.node.ensures c.in-Window.is tt
+returns-in-Window c = plain_is c.args.self.now.desc.now c.args.node c.node.result.now
+    (Window c.in-Window.unit c.in-Window.count c.in-Window.part) c.node.ensures c.in-Window.is tt
 
 pub returns-in-Named : goal.returns-in-Named
 returns-in-Named c = plain_is c.args.self.now.desc.now c.args.node c.node.result.now (Named c.in-Named.label c.in-Named.part) c.node.ensures c.in-Named.is tt

@@ -19,4 +19,5 @@ pub returns : goal.returns
 returns c =
     let d = c.args.self.now.desc.now in
     let times = c.requires.times in
-    times_none d c.args.node c.args.part times.0 times.1 (denied c.nullable.result (Nullable d c.args.part) (c.nullable.ensures d c.requires.known.sets) c.if-nullable.false)
+    times_none d c.args.node c.args.part times.0 times.1 (denied c.nullable.result (Nullable d c.args.part)
+    (c.nullable.ensures d c.requires.known.sets) c.if-nullable.false)

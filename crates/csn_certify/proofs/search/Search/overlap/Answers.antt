@@ -17,8 +17,10 @@ returns-in-Some c =
     let d = c.args.self.now.desc.now in
     let P = Overlaps d c.args.octet c.args.choice.now.parts.now in
     let least : IsLeastFrom 0 P (Some c.in-Some.i) = subst (λ (r : Option ℕ). IsLeastFrom 0 P r) c.in-Some.is c.in_ok-i.ensures in
-    if_ok_more c.overlap_of.result (IsFirstUnder d (c.args.choice.now.node ∷ 3 ∷ c.args.octet ∷ 3 ∷ c.in-Some.i ∷ [])) (IsFirstUnder d (c.args.choice.now.node ∷ 3 ∷ c.args.octet ∷ 3 ∷ []))
-    (λ r h. overlap_some d c.args.choice.now.node c.args.choice.now.parts.now c.requires.choice c.args.octet c.in-Some.i r c.requires.reached least h) c.overlap_of.ensures
+    if_ok_more c.overlap_of.result (IsFirstUnder d (c.args.choice.now.node ∷ 3 ∷ c.args.octet ∷ 3 ∷ c.in-Some.i ∷ []))
+    (IsFirstUnder d (c.args.choice.now.node ∷ 3 ∷ c.args.octet ∷ 3 ∷ []))
+    (λ r h. overlap_some d c.args.choice.now.node c.args.choice.now.parts.now c.requires.choice c.args.octet
+    c.in-Some.i r c.requires.reached least h) c.overlap_of.ensures
 
 pub returns-in-None : goal.returns-in-None
 returns-in-None c =

@@ -17,13 +17,16 @@ pub returns-in-Some : goal.returns-in-Some
 returns-in-Some c =
     let d = c.args.self.now.desc.now in
     second_found d c.args.choice.now.node c.args.choice.now.parts.now c.requires.choice c.args.octet c.args.i c.loop-j.j c.in-Some.conflict c.loop-j.invariant
-    (known_some d (c.args.choice.now.node ∷ 3 ∷ c.args.octet ∷ 3 ∷ c.args.i ∷ c.loop-j.j ∷ []) c.in_ok-conflict.field-0 c.in-Some.conflict c.in-Some.is c.in_ok-conflict.ensures)
+    (known_some d (c.args.choice.now.node ∷ 3 ∷ c.args.octet ∷ 3 ∷ c.args.i ∷ c.loop-j.j ∷ [])
+    c.in_ok-conflict.field-0 c.in-Some.conflict c.in-Some.is c.in_ok-conflict.ensures)
 
 pub loop-j-preserved : goal.loop-j-preserved
 loop-j-preserved c =
     let d = c.args.self.now.desc.now in
     none_more d (c.args.choice.now.node ∷ 3 ∷ c.args.octet ∷ 3 ∷ c.args.i ∷ []) c.loop-j.j c.loop-j.invariant
-    (known_none d (c.args.choice.now.node ∷ 3 ∷ c.args.octet ∷ 3 ∷ c.args.i ∷ c.loop-j.j ∷ []) c.in_ok-conflict.field-0 c.in_default.is c.in_ok-conflict.ensures)
+    (known_none d (c.args.choice.now.node ∷ 3 ∷ c.args.octet ∷ 3 ∷ c.args.i ∷ c.loop-j.j ∷ [])
+    c.in_ok-conflict.field-0 c.in_default.is c.in_ok-conflict.ensures)
 
 pub returns : goal.returns
-returns c = second_end c.args.self.now.desc.now c.args.choice.now.node c.args.choice.now.parts.now c.requires.choice c.args.octet c.args.i c.loop-j.j (omega (arith, c.loop-j-test.false, c.len-count.ensures.len)) c.loop-j.invariant
+returns c = second_end c.args.self.now.desc.now c.args.choice.now.node c.args.choice.now.parts.now c.requires.choice
+    c.args.octet c.args.i c.loop-j.j (omega (arith, c.loop-j-test.false, c.len-count.ensures.len)) c.loop-j.invariant

@@ -16,7 +16,8 @@ returns-in_err-j c =
     (two_one d c.args.choice.now.node c.args.choice.now.parts.now c.requires.choice c.in_ok-i.i c.in_ok-i.ensures.least c.in_err-j.ensures.least)
 
 pub returns : goal.returns
-returns c = two_some c.args.self.now.desc.now c.args.choice.now.node c.args.choice.now.parts.now c.requires.choice c.in_ok-i.i c.in_ok-j.j c.in_ok-i.ensures.least c.in_ok-j.ensures.least
+returns c = two_some c.args.self.now.desc.now c.args.choice.now.node c.args.choice.now.parts.now c.requires.choice
+    c.in_ok-i.i c.in_ok-j.j c.in_ok-i.ensures.least c.in_ok-j.ensures.least
 
 pub overflow_add-i : goal.overflow_add-i
 overflow_add-i c = omega (arith, c.in_ok-i.ensures.small)

@@ -29,4 +29,5 @@ returns-clause-decodes g c =
     let Q : DecoderV → Type 0 = λ d. Decodes d (stands new after c.of-self-inside.result) more c.of-self-inside.result in
     subst Q (ap (λ a. stands old before a) (sym going) ∙ c.self.view_is)
     (subst P (sym c.of-self-inside.ensures)
-    (feeds old new before after more c.feed_to-verdict.result c.is_refused.result c.feed_to-verdict.ensures.desc (subst A going c.self.invariant.answer_is) c.feed_to-verdict.ensures.judges))
+    (feeds old new before after more c.feed_to-verdict.result c.is_refused.result c.feed_to-verdict.ensures.desc
+    (subst A going c.self.invariant.answer_is) c.feed_to-verdict.ensures.judges))

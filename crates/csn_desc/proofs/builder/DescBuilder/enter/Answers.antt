@@ -1,5 +1,7 @@
 -- What stands where a node is entered.
-use Rattle.std.proofs.Common.{◌≡◌, ◌↔◌, ℕ, suc, ◌<◌, ◌==◌, Bool, false, List, [], ◌∷◌, ◌++◌, ◌-◌, ◌≤◌, length, reverse, take, refl, sym, ◌∙◌, ap, subst, arith, add-one, option_to_list, Result, Ok, Err}
+use Rattle.std.proofs.Common.{◌≡◌, ◌↔◌, ℕ, suc, ◌<◌, ◌==◌, Bool, false, List, [], ◌∷◌, ◌++◌, ◌-◌, ◌≤◌, length}
+use Rattle.std.proofs.Common.{reverse, take, refl, sym, ◌∙◌, ap, subst, arith, add-one, option_to_list, Result, Ok}
+use Rattle.std.proofs.Common.{Err}
 use Rattle.std.specs.Prelude.{⊤}
 use Rattle.std.proofs.lemmas.Bool.{eqb-true}
 use Rattle.csn_desc.specs.declared.builder.DescFault.{DescFault}
@@ -82,7 +84,8 @@ IsOther (Ok number) = ⊤
 IsOther (Err NoMemory) = ⊤
 IsOther _ = ⊥
 
-tells_neither : (answer : Result ℕ DescFault) → IsOther answer → {inside b : BuilderV} → inside ≡ b → length inside.nodes < 16384 → length inside.around < 64 → Tells answer b
+tells_neither : (answer : Result ℕ DescFault) → IsOther answer → {inside b : BuilderV}
+    → inside ≡ b → length inside.nodes < 16384 → length inside.around < 64 → Tells answer b
 tells_neither answer other is few room =
     let P : BuilderV → Type 0 = λ b. Tells answer b in
     subst P is (record {
@@ -130,7 +133,8 @@ returns c =
     let done = ok_holds c.push_part.result (sym c.is_err.ensures.value ∙ c.if-is_err.false) c.push_part.ensures.ok in
     let long : c.len-number.result ≡ length nodes = omega (arith, c.len-number.ensures) in
     let is_entered =
-    entered_last c.self.inside.reading nodes items c.copied-above.result c.args.head c.begun_node-node.result c.len-number.result c.push_part.new.nodes.items c.push.new.self.items
+    entered_last c.self.inside.reading nodes items c.copied-above.result c.args.head c.begun_node-node.result
+    c.len-number.result c.push_part.new.nodes.items c.push.new.self.items
     long (last_read c.deref.ensures.0 (c.copied-above.ensures ∙ c.last.ensures.value)) c.begun_node-node.ensures done c.push.ensures.items in
     let P : BuilderV → Type 0 = λ b. (c.len-number.result ≡ length b.nodes)
     × (record { reading = c.self.inside.reading; nodes = c.push_part.new.nodes.items; around = reverse c.push.new.self.items } ≡ entered c.args.head b)

@@ -15,7 +15,8 @@ only_one x field (suc k, within, is) = absurd (omega (arith, within))
 abbrev IsNarrow : List Node → ℕ → Type 0
 IsNarrow nodes field = IsSomeAnd (value_width nodes field) (λ width. (1 ≤ width) × (width ≤ 16))
 
-next_count : (b : BuilderV) (m field c : ℕ) → 1 ≤ m → c ≤ 65535 → is_shown b.nodes b.around field ≡ true → IsNarrow b.nodes field → IsNextCount b (Counted m field c)
+next_count : (b : BuilderV) (m field c : ℕ) → 1 ≤ m → c ≤ 65535 → is_shown b.nodes b.around field ≡ true
+    → IsNarrow b.nodes field → IsNextCount b (Counted m field c)
 next_count b m field c some few shown narrow =
     record {
       seen = field ∷ [];

@@ -14,13 +14,15 @@ times_tell b count tells = (
   (λ h. tells.1 (record { seen = h.seen; shown = h.shown; well_formed = h.well_formed })),
 )
 
-field_tells : {r : Bool} (b : BuilderV) (unit : ℕ) (count : Count) → IsUnit unit → (IsTrue r ↔ IsNextCount b count) → IsTrue r ↔ IsNextHead b (Field unit count)
+field_tells : {r : Bool} (b : BuilderV) (unit : ℕ) (count : Count) → IsUnit unit → (IsTrue r ↔ IsNextCount b count)
+    → IsTrue r ↔ IsNextHead b (Field unit count)
 field_tells b unit count is tells = (
   (λ h. let next = tells.0 h in record { seen = next.seen; shown = next.shown; well_formed = (is, next.well_formed) }),
   (λ h. tells.1 (record { seen = h.seen; shown = h.shown; well_formed = h.well_formed.1 })),
 )
 
-window_tells : {r : Bool} (b : BuilderV) (unit : ℕ) (count : Count) → IsUnit unit → (IsTrue r ↔ IsNextCount b count) → IsTrue r ↔ IsNextHead b (Window unit count)
+window_tells : {r : Bool} (b : BuilderV) (unit : ℕ) (count : Count) → IsUnit unit → (IsTrue r ↔ IsNextCount b count)
+    → IsTrue r ↔ IsNextHead b (Window unit count)
 window_tells b unit count is tells = (
   (λ h. let next = tells.0 h in record { seen = next.seen; shown = next.shown; well_formed = (is, next.well_formed) }),
   (λ h. tells.1 (record { seen = h.seen; shown = h.shown; well_formed = h.well_formed.1 })),
@@ -50,7 +52,8 @@ returns-else-is_unit c =
 pub returns-then-is_unit-2 : goal.returns-then-is_unit-2
 returns-then-is_unit-2 c =
     let P : Head → Type 0 = λ h. IsTrue c.is_next_count-then-is_unit-2.result ↔ IsNextHead c.args.self.now h in
-    subst P (sym c.in-Window.is) (window_tells c.args.self.now c.in-Window.unit c.in-Window.count (c.is_unit-in-Window.ensures.0 c.if-is_unit-2.true) c.is_next_count-then-is_unit-2.ensures)
+    subst P (sym c.in-Window.is) (window_tells c.args.self.now c.in-Window.unit c.in-Window.count
+    (c.is_unit-in-Window.ensures.0 c.if-is_unit-2.true) c.is_next_count-then-is_unit-2.ensures)
 
 pub returns-else-is_unit-2 : goal.returns-else-is_unit-2
 returns-else-is_unit-2 c =

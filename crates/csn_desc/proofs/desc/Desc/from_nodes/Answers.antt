@@ -24,7 +24,9 @@ pub returns-in-Some-clause-vals : goal.returns-in-Some-clause-vals
 returns-in-Some-clause-vals c = λ node is.
     let nodes = c.args.nodes.items in
     let Q : List Node → Type 0 = λ l. FirstCrowded l 0 0 0 c.in-Some.node in
-    let first : IsFirstOverfull nodes c.in-Some.node = first_of_nodes nodes (laid_out nodes c.requires.well_formed c.requires.numbered) c.in-Some.node (subst Q c.as_slice-2.ensures.value c.in-Some.ensures.some) in
+    let first : IsFirstOverfull nodes c.in-Some.node =
+    first_of_nodes nodes (laid_out nodes c.requires.well_formed c.requires.numbered) c.in-Some.node
+    (subst Q c.as_slice-2.ensures.value c.in-Some.ensures.some) in
     let same : c.in-Some.node ≡ node = cc in
     let R : ℕ → Type 0 = λ k. IsFirstOverfull nodes k in
     subst R same first
@@ -43,5 +45,8 @@ pub invariant_of-result : goal.invariant_of-result
 invariant_of-result c =
     let nodes = c.args.nodes.items in
     let Q : List Node → Type 0 = λ l. NoneCrowded l 0 0 0 in
-    let R : List Node → Type 0 = λ l. c.in-Ok.counted.items ≡ counted_marks l in
-    (is_description nodes c.args.reading c.requires.few (laid_out nodes c.requires.well_formed c.requires.numbered) (subst Q c.as_slice-2.ensures.value c.in-None.ensures.none), subst R c.as_slice.ensures.value c.in-Ok.ensures)
+    let R : List Node → Type 0 = λ l. c.in-Ok.counted.items ≡ counted_marks l in (
+      is_description nodes c.args.reading c.requires.few (laid_out nodes c.requires.well_formed c.requires.numbered)
+          (subst Q c.as_slice-2.ensures.value c.in-None.ensures.none),
+      subst R c.as_slice.ensures.value c.in-Ok.ensures,
+    )

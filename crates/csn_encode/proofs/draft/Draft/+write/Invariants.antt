@@ -38,7 +38,8 @@ abbrev pub decreases-below : goal.decreases-below
 decreases-below g l = 5 * (64 - l.round) + 1
 
 abbrev pub invariant-parts-loop-at : goal.invariant-parts-loop-at
-invariant-parts-loop-at g l = (v : Values) → StandsAtParts l.plan true l.parts l.round v l.fn.self → PartsDone l.plan l.parts l.rows l.round v l.fn.self l.at l.kept l.self
+invariant-parts-loop-at g l = (v : Values) → StandsAtParts l.plan true l.parts l.round v l.fn.self
+    → PartsDone l.plan l.parts l.rows l.round v l.fn.self l.at l.kept l.self
 
 abbrev pub invariant-turns-loop-at : goal.invariant-turns-loop-at
 invariant-turns-loop-at g l = (v : Values) → StandsAtPart l.plan l.part l.round v l.fn.self → TurnsDone l.plan l.part l.rows l.round v l.fn.self l.at l.self

@@ -25,7 +25,8 @@ loop-left-preserved c =
     let long = ap length added ∙ length-append c.loop-left.self.bits (take 56 (bits_of_octets front)) in
     let run = length-take-le 56 (bits_of_octets front) (omega (arith, length-bits_of_octets front, size)) in
     record {
-      bits = run_more c.loop-left.self.bits c.args.self.now.bits c.args.leaf.now c.loop-left.rest.now front c.split_at.result.1.now c.add_run.new.self.bits c.loop-left.left now.bits
+      bits = run_more c.loop-left.self.bits c.args.self.now.bits c.args.leaf.now c.loop-left.rest.now front
+          c.split_at.result.1.now c.add_run.new.self.bits c.loop-left.left now.bits
           c.split_at.ensures.front c.split_at.ensures.back (omega (arith, now.count, c.loop-left-test.true)) c.loop-left-test.true added;
       count = omega (arith, now.count, c.split_at.ensures.back_len, c.loop-left-test.true);
       room = omega (arith, now.room, long, run, c.loop-left-test.true);

@@ -12,7 +12,8 @@ returns c =
     let none = c.if-wanted-eq0.false in
     let room = c.if-wanted-len.false in (
       bits leaf,
-      short_begins c.args.wanted c.in_ok-value.value c.in_ok-width.width _ c.in_ok-width.value_text.now c.in_ok-behind.field-0.now _ (omega (arith, none)) (omega (arith, c.if-wanted-gt-MOST_ADDED.false))
+      short_begins c.args.wanted c.in_ok-value.value c.in_ok-width.width _ c.in_ok-width.value_text.now
+          c.in_ok-behind.field-0.now _ (omega (arith, none)) (omega (arith, c.if-wanted-gt-MOST_ADDED.false))
           (let zero = c.if-value-wanted-ne0.false in omega (arith, zero)) (let same = c.if-width-from.false in omega (arith, same, c.from.ensures))
           c.in_ok-width.ensures c.in_ok-behind.ensures c.in_ok-value.ensures,
       λ d v unit count n counted all. field_added d leaf n c.args.wanted counted all (length-low_bits c.args.wanted c.in_ok-value.value) refl

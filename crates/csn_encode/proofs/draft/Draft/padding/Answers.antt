@@ -4,13 +4,24 @@ use Rattle.csn_encode.proofs.NodeKinds.{on_ok, if_misfit, no_bits, kind_missed, 
 use Rattle.csn_encode.proofs.draft.Draft.padding.Goals as goal
 
 pub returns-in_default : goal.returns-in_default
-returns-in_default c = record { added = tt; missed = λ d v read. kind_missed d Pad c.tree.inside.shape c.tree.view_is (no_bits Pad refl (λ r. refl) (λ j t. refl) (λ l t. refl) c.tree.inside.shape c.in_default.not-Bits) }
+returns-in_default c = record {
+  added = tt;
+  missed = λ d v read. kind_missed d Pad c.tree.inside.shape c.tree.view_is
+      (no_bits Pad refl (λ r. refl) (λ j t. refl) (λ l t. refl) c.tree.inside.shape c.in_default.not-Bits);
+}
 
 pub returns-then-found-eq0-clause-missed : goal.returns-then-found-eq0-clause-missed
-returns-then-found-eq0-clause-missed c = λ d v read. pad_empty d c.in-Bits.bits c.len-found.result c.len-found.ensures.count c.if-found-eq0.true (viewed c.tree.view_is c.in-Bits.is)
+returns-then-found-eq0-clause-missed c =
+    λ d v read. pad_empty d c.in-Bits.bits c.len-found.result c.len-found.ensures.count c.if-found-eq0.true
+    (viewed c.tree.view_is c.in-Bits.is)
 
 pub returns-clause-added : goal.returns-clause-added
-returns-clause-added c = on_ok c.add_spare.result (λ h d v read. pad_added d c.args.reading c.in-Bits.bits read (let long = c.len-found.ensures.count in let not = c.if-found-eq0.false in omega (arith, long, not)) (viewed c.tree.view_is c.in-Bits.is) h) c.add_spare.ensures.added
+returns-clause-added c = on_ok c.add_spare.result (λ h d v read. pad_added d c.args.reading c.in-Bits.bits read
+    (let long = c.len-found.ensures.count in let not = c.if-found-eq0.false in omega (arith, long, not))
+    (viewed c.tree.view_is c.in-Bits.is) h) c.add_spare.ensures.added
 
 pub returns-clause-missed : goal.returns-clause-missed
-returns-clause-missed c = if_misfit c.add_spare.result (λ why h d v read. pad_missed d c.args.reading c.in-Bits.bits read (let long = c.len-found.ensures.count in let not = c.if-found-eq0.false in omega (arith, long, not)) (viewed c.tree.view_is c.in-Bits.is) h c.add_spare.ensures.path) c.add_spare.ensures.missed
+returns-clause-missed c =
+    if_misfit c.add_spare.result (λ why h d v read. pad_missed d c.args.reading c.in-Bits.bits read (let long =
+    c.len-found.ensures.count in let not = c.if-found-eq0.false in omega (arith, long, not))
+    (viewed c.tree.view_is c.in-Bits.is) h c.add_spare.ensures.path) c.add_spare.ensures.missed

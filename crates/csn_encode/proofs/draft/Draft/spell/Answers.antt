@@ -7,21 +7,26 @@ use Rattle.csn_encode.proofs.draft.Draft.spell.Goals as goal
 
 pub push-requires-clause-room : goal.push-requires-clause-room
 push-requires-clause-room c =
-    let long = ap length c.loop-at.invariant.bits ∙ length-append c.args.self.now.bits (spelled (take c.loop-at.at c.args.run.now) (length c.args.self.now.bits)) in
+    let long = ap length c.loop-at.invariant.bits ∙ length-append c.args.self.now.bits
+    (spelled (take c.loop-at.at c.args.run.now) (length c.args.self.now.bits)) in
     let size = length-spelled (take c.loop-at.at c.args.run.now) (length c.args.self.now.bits) in
     let few = length-take-le c.loop-at.at c.args.run.now (omega arith) in
     omega (arith, long, size, few)
 
 pub loop-at-preserved : goal.loop-at-preserved
 loop-at-preserved c =
-    let long = ap length c.loop-at.invariant.bits ∙ length-append c.args.self.now.bits (spelled (take c.loop-at.at c.args.run.now) (length c.args.self.now.bits)) in
+    let long = ap length c.loop-at.invariant.bits ∙ length-append c.args.self.now.bits
+    (spelled (take c.loop-at.at c.args.run.now) (length c.args.self.now.bits)) in
     let size = length-spelled (take c.loop-at.at c.args.run.now) (length c.args.self.now.bits) in
     let few = length-take-le c.loop-at.at c.args.run.now (omega arith) in
     record {
       bits = c.in_ok-push.ensures.bits ∙ ap (λ l. l ++ c.bit.result ∷ []) c.loop-at.invariant.bits
           ∙ append_assoc c.args.self.now.bits (spelled (take c.loop-at.at c.args.run.now) (length c.args.self.now.bits)) (c.bit.result ∷ [])
           ∙ ap (λ b. c.args.self.now.bits ++ (spelled (take c.loop-at.at c.args.run.now) (length c.args.self.now.bits) ++ b ∷ [])) c.bit.ensures.value
-          ∙ ap (λ l. c.args.self.now.bits ++ l) (sym (spelled-next c.args.run.now c.loop-at.at (length c.args.self.now.bits) c.len-place.result c.get.result.now c.get.ensures (omega arith) (c.len-place.ensures.count ∙ (omega (arith, long, size, few)))));
+          ∙ ap (λ l. c.args.self.now.bits ++ l)
+          (sym (spelled-next c.args.run.now c.loop-at.at (length c.args.self.now.bits)
+          c.len-place.result c.get.result.now c.get.ensures (omega arith)
+          (c.len-place.ensures.count ∙ (omega (arith, long, size, few)))));
       path = c.in_ok-push.ensures.path ∙ c.loop-at.invariant.path;
       numbers = c.in_ok-push.ensures.numbers ∙ c.loop-at.invariant.numbers;
     }

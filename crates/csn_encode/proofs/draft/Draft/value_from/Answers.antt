@@ -18,7 +18,8 @@ pub loop-at-preserved : goal.loop-at-preserved
 loop-at-preserved c =
     let next = number-next c.args.self.now.bits c.args.from c.loop-at.at c.get.result (omega arith) (omega arith) (sym c.get.ensures.value) in
     let longer : c.loop-at.at + 1 - c.args.from ≡ suc (c.loop-at.at - c.args.from) = omega arith in
-    let double : 2 ^ (c.loop-at.at + 1 - c.args.from) ≡ 2 ^ (c.loop-at.at - c.args.from) * 2 = ap (λ k. 2 ^ k) longer ∙ pow-suc 2 (c.loop-at.at - c.args.from) in (
+    let double : 2 ^ (c.loop-at.at + 1 - c.args.from) ≡ 2 ^ (c.loop-at.at - c.args.from) * 2 = ap (λ k. 2 ^ k) longer
+    ∙ pow-suc 2 (c.loop-at.at - c.args.from) in (
       omega (arith, next, c.loop-at.invariant.0, c.from.ensures),
       omega (arith, double, c.loop-at.invariant.1, c.get.ensures.bit, c.from.ensures),
     )

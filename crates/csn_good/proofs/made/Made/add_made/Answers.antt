@@ -12,7 +12,8 @@ use Rattle.csn_good.proofs.made.Made.add_made.Goals as goal
 pub returns-then-not-whole : goal.returns-then-not-whole
 returns-then-not-whole c =
     on_ok_weaker c.add.result
-    (λ added p. either_as (added p) (makes_only_itself (MadeAt c.args.self.now.at.items) c.args.first p c.args.octet (sym c.whole.ensures ∙ c.if-not-whole.true)))
+    (λ added p. either_as (added p) (makes_only_itself (MadeAt c.args.self.now.at.items) c.args.first p c.args.octet
+    (sym c.whole.ensures ∙ c.if-not-whole.true)))
     c.add.ensures
 
 pub loop-rest-preserved : goal.loop-rest-preserved

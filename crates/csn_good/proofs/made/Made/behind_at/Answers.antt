@@ -12,4 +12,6 @@ returns-then-not-has c = λ p. (
 )
 
 pub add_each-requires-clause-behind : goal.add_each-requires-clause-behind
-add_each-requires-clause-behind c = subst (λ (l : List (Option (List PatternV))). AreBehind c.args.self.now.at.items c.args.octet l) (sym c.as_slice.ensures.value) c.in_ok-behind.ensures
+add_each-requires-clause-behind c =
+    subst (λ (l : List (Option (List PatternV))). AreBehind c.args.self.now.at.items c.args.octet l)
+    (sym c.as_slice.ensures.value) c.in_ok-behind.ensures

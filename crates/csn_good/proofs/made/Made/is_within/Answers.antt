@@ -13,7 +13,12 @@ loop-octet-preserved c = λ o p less h.
           let found = here.at in
           let own = c.set_at-own.ensures in
           let list : here.patterns ≡ c.set_at-own.result.now = cc in
-          record { patterns = c.set_at-others.result.now; at = c.set_at-others.ensures; is_made = c.is_within.ensures c.if-not-is_within.false p (subst (λ l. Contains l p) list here.is_made) }) h
+          record {
+            patterns = c.set_at-others.result.now;
+            at = c.set_at-others.ensures;
+            is_made =
+                c.is_within.ensures c.if-not-is_within.false p (subst (λ l. Contains l p) list here.is_made);
+          }) h
       | inr apart ↦ (let differ = apart.1 in c.loop-octet.invariant o p (omega arith) h)
     ]
 

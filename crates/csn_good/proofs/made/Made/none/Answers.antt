@@ -8,7 +8,8 @@ loop-octet-init c = fill_begin (λ o p. p ≡ record { marks = []; whole = true 
 pub loop-octet-preserved : goal.loop-octet-preserved
 loop-octet-preserved c =
     subst (λ l. FilledTo l (λ o p. p ≡ record { marks = []; whole = true }) (c.loop-octet.octet + 1)) (sym c.in_ok-push.ensures.items)
-    (fill_on (λ o p. p ≡ record { marks = []; whole = true }) c.loop-octet.at.items c.loop-octet.octet c.in_ok-nothing.field-0 c.loop-octet.invariant c.in_ok-nothing.ensures)
+    (fill_on (λ o p. p ≡ record { marks = []; whole = true }) c.loop-octet.at.items c.loop-octet.octet
+    c.in_ok-nothing.field-0 c.loop-octet.invariant c.in_ok-nothing.ensures)
 
 pub returns : goal.returns
 returns c =

@@ -17,7 +17,8 @@ pub loop-pattern-preserved : goal.loop-pattern-preserved
 loop-pattern-preserved c = λ p.
     let items = c.as_slice-pattern-items.result.now in
     let at = slice_get_read items (length items) c.loop-pattern.pattern-index c.pattern-item.result refl c.loop-pattern-test.true c.pattern-item.is in
-    next_sames (c.in_ok-add.ensures p) (c.loop-pattern.invariant p) (cuts_on c.args.room c.loop-pattern.pattern-index items c.pattern-item.result p at) c.cut_to.ensures
+    next_sames (c.in_ok-add.ensures p) (c.loop-pattern.invariant p)
+    (cuts_on c.args.room c.loop-pattern.pattern-index items c.pattern-item.result p at) c.cut_to.ensures
 
 pub returns : goal.returns
 returns c = λ p.

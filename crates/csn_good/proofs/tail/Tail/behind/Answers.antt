@@ -22,4 +22,6 @@ returns c = λ parts old.
       | then-self w ↦ both_then own part c.if-self.result w.if-self.true (w.result-is ∙ w.nullable.ensures)
       | else-self w ↦ both_else own part c.if-self.result w.if-self.false (w.result-is ∙ w.if-self.false)
     ] in
-    tail_behind (claims_of c.args.c.now) (ends_small c.args.c.now) c.args.self.now (record { nullable = c.if-self.result; zero = c.begins_behind.result; one = c.begins_behind-2.result }) parts c.args.i is c.begins_behind.ensures c.begins_behind-2.ensures old
+    tail_behind (claims_of c.args.c.now) (ends_small c.args.c.now) c.args.self.now
+    (record { nullable = c.if-self.result; zero = c.begins_behind.result; one = c.begins_behind-2.result })
+    parts c.args.i is c.begins_behind.ensures c.begins_behind-2.ensures old

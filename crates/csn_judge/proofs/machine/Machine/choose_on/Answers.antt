@@ -22,4 +22,6 @@ pub returns-clause-pays : goal.returns-clause-pays
 returns-clause-pays g c =
     let before = credit_in c.args.self.now.plan.now (state_with (frame.Open c.args.i) c.args.self.now c.args.source.now) in
     let after = credit_in c.args.self.now.plan.now (state_then c.choose.result c.choose.new.self c.choose.new.source) in
-    paid_before before after c.args.steps.now c.choose.new.steps (turn_in c.choose.result) (subst (λ (k : ℕ). Pays before after k (c.choose.new.steps + 1) (turn_in c.choose.result)) c.node-node.ensures.step c.choose.ensures.pays)
+    paid_before before after c.args.steps.now c.choose.new.steps (turn_in c.choose.result)
+    (subst (λ (k : ℕ). Pays before after k (c.choose.new.steps + 1) (turn_in c.choose.result))
+    c.node-node.ensures.step c.choose.ensures.pays)

@@ -8,7 +8,8 @@ use Rattle.csn_judge.proofs.machine.Machine.enter_along.Given as goal
 abbrev pub invariant-loop-node : goal.invariant-loop-node
 invariant-loop-node g l =
     (l.self.plan ≡ l.fn.self.plan)
-    × Going l.fn.self.plan.now g.T.Track.takes (state_with (frame.Begin l.first) l.fn.self l.fn.source) (state_with (frame.Begin l.begins) l.self l.source) l.fn.track l.track l.fn.steps l.steps
+    × Going l.fn.self.plan.now g.T.Track.takes (state_with (frame.Begin l.first) l.fn.self l.fn.source)
+    (state_with (frame.Begin l.begins) l.self l.source) l.fn.track l.track l.fn.steps l.steps
 
 abbrev pub decreases-loop-node : goal.decreases-loop-node
 decreases-loop-node g l = credit_in l.fn.self.plan.now (state_with (frame.Begin l.begins) l.self l.source)

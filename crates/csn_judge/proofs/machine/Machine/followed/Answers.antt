@@ -7,7 +7,8 @@ pub loop-count-init : goal.loop-count-init
 loop-count-init g c =
     let same : c.args.ready ≡ c.args.ready - 1 + 1 = omega (arith, c.requires.some) in (
       omega (arith, c.requires.some),
-      subst (λ n. Picks c.args.self.now.plan.now 12 c.args.i (c.args.source.now.place % 8) (take n c.args.source.now.bits) false Refuse) same c.requires.refused,
+      subst (λ n. Picks c.args.self.now.plan.now 12 c.args.i (c.args.source.now.place % 8)
+          (take n c.args.source.now.bits) false Refuse) same c.requires.refused,
       omega arith,
     )
 

@@ -24,7 +24,10 @@ push-requires g c = (lit< tt, items_room c.args.self.now.plan.now c.args.self.no
 
 pub returns-then-not-is_closed-clause-turns : goal.returns-then-not-is_closed-clause-turns
 returns-then-not-is_closed-clause-turns g c =
-    waits_unready c.args.self.now.plan.now g.T.Track.takes c.args.track.now c.args.self.now.values.items c.args.self.now.pace c.ready-ready.new.self 1 (omega arith) c.ready-ready.ensures.same (sym c.ready-ready.ensures.count ∙ c.if-ready-eq0.true) c.ready-ready.ensures.good c.ready-ready.ensures.within
+    waits_unready c.args.self.now.plan.now g.T.Track.takes c.args.track.now c.args.self.now.values.items
+    c.args.self.now.pace c.ready-ready.new.self 1 (omega arith) c.ready-ready.ensures.same
+    (sym c.ready-ready.ensures.count ∙ c.if-ready-eq0.true)
+    c.ready-ready.ensures.good c.ready-ready.ensures.within
     (λ closed. true_and_false (c.is_closed.ensures.1 closed) c.if-not-is_closed.true) c.requires.known
     (pushed c.args.self.now.frames.items (frame.Many c.args.i c.args.part) c.push.ensures.items)
 
@@ -43,25 +46,38 @@ pub begin-requires-clause-few : goal.begin-requires-clause-few
 begin-requires-clause-few g c =
     let d : DescV = c.args.self.now.plan.now in
     let k = free_stands d c.requires.stands.shows in
-    let stack = subst (λ (l : List Left). IsStack d c.args.self.now.pace.next (fresh_at c.args.self.now.pace (length c.requires.done)) l c.requires.done) k.is c.requires.stands.stack_is in
+    let stack = subst (λ (l : List Left). IsStack d c.args.self.now.pace.next
+    (fresh_at c.args.self.now.pace (length c.requires.done)) l c.requires.done) k.is c.requires.stands.stack_is in
     omega (arith, begun_within d (of_begun d (free_begins d c.args.self.now.pace c.requires.known stack)), c.requires.known.description.few)
 
 pub begin-requires-clause-room : goal.begin-requires-clause-room
 begin-requires-clause-room g c =
     let d : DescV = c.args.self.now.plan.now in
     let k = free_stands d c.requires.stands.shows in
-    let stack = subst (λ (l : List Left). IsStack d c.args.self.now.pace.next (fresh_at c.args.self.now.pace (length c.requires.done)) l c.requires.done) k.is c.requires.stands.stack_is in
-    omega (arith, room d (of_begun d (free_begins d c.args.self.now.pace c.requires.known stack)), round_length d k.round, length-reverse c.args.self.now.frames.items)
+    let stack = subst (λ (l : List Left). IsStack d c.args.self.now.pace.next
+    (fresh_at c.args.self.now.pace (length c.requires.done)) l c.requires.done) k.is c.requires.stands.stack_is in
+    omega (
+      arith,
+      room d (of_begun d (free_begins d c.args.self.now.pace c.requires.known stack)),
+      round_length d k.round,
+      length-reverse c.args.self.now.frames.items,
+    )
 
 pub returns-in-Take-clause-turns : goal.returns-in-Take-clause-turns
 returns-in-Take-clause-turns g c =
     let d : DescV = c.args.self.now.plan.now in
     λ stack done stands.
-    goes_since d g.T.Track.takes c.args.track.now c.args.track.now (frame.Many c.args.i c.args.part ∷ reverse c.args.self.now.frames.items) c.args.self.now.values.items c.args.self.now.pace c.ready-ready.ensures.same _
-    (GoesOn-along d g.T.Track.takes c.args.track.now c.args.self.now.values.items c.args.self.now.pace c.ready-ready.new.self (ap (λ (l : List Frame). frame.Begin c.args.part ∷ l) c.begin.ensures.frames) (ap (λ v. v.items) c.begin.ensures.values) c.begin.ensures.pace
+    goes_since d g.T.Track.takes c.args.track.now c.args.track.now
+    (frame.Many c.args.i c.args.part ∷ reverse c.args.self.now.frames.items)
+    c.args.self.now.values.items c.args.self.now.pace c.ready-ready.ensures.same _
+    (GoesOn-along d g.T.Track.takes c.args.track.now c.args.self.now.values.items c.args.self.now.pace
+    c.ready-ready.new.self (ap (λ (l : List Frame). frame.Begin c.args.part ∷ l) c.begin.ensures.frames)
+    (ap (λ v. v.items) c.begin.ensures.values) c.begin.ensures.pace
     (free_takes d g.T.Track.takes c.args.track.now c.args.self.now.values.items c.args.self.now.pace c.ready-ready.new.self c.ready-ready.ensures.count
     c.in-Take.ensures.none c.in-Take.ensures.some c.requires.known
-    (stands_on d g.T.Track.takes c.args.track.now c.args.track.now (frame.Many c.args.i c.args.part ∷ reverse c.args.self.now.frames.items) c.args.self.now.values.items c.args.self.now.pace c.ready-ready.ensures.same stands)))
+    (stands_on d g.T.Track.takes c.args.track.now c.args.track.now
+    (frame.Many c.args.i c.args.part ∷ reverse c.args.self.now.frames.items)
+    c.args.self.now.values.items c.args.self.now.pace c.ready-ready.ensures.same stands)))
 
 pub leave-requires : goal.leave-requires
 leave-requires g c =
@@ -81,14 +97,22 @@ returns g c =
     in
     record {
       turns = λ stack done stands.
-          goes_since d g.T.Track.takes c.args.track.now c.leave.new.track (frame.Many c.args.i c.args.part ∷ reverse c.args.self.now.frames.items) c.args.self.now.values.items c.args.self.now.pace c.ready-ready.ensures.same _
-          (free_leaves d g.T.Track.takes c.args.track.now c.args.self.now.values.items c.args.self.now.pace next c.leave.ensures.told.0 c.ready-ready.ensures.good c.ready-ready.ensures.count closed c.pick.ensures.some c.in_default.not-Take
+          goes_since d g.T.Track.takes c.args.track.now c.leave.new.track
+          (frame.Many c.args.i c.args.part ∷ reverse c.args.self.now.frames.items)
+          c.args.self.now.values.items c.args.self.now.pace c.ready-ready.ensures.same _
+          (free_leaves d g.T.Track.takes c.args.track.now c.args.self.now.values.items c.args.self.now.pace next
+          c.leave.ensures.told.0 c.ready-ready.ensures.good c.ready-ready.ensures.count closed c.pick.ensures.some
+          c.in_default.not-Take
           c.leave.ensures.told.1 c.leave.ensures.told.2 c.requires.known
-          (stands_on d g.T.Track.takes c.args.track.now c.args.track.now (frame.Many c.args.i c.args.part ∷ reverse c.args.self.now.frames.items) c.args.self.now.values.items c.args.self.now.pace c.ready-ready.ensures.same stands));
+          (stands_on d g.T.Track.takes c.args.track.now c.args.track.now
+          (frame.Many c.args.i c.args.part ∷ reverse c.args.self.now.frames.items)
+          c.args.self.now.values.items c.args.self.now.pace c.ready-ready.ensures.same stands));
       plan = refl;
       waits = λ same. absurd (moved_and_waits same);
       pays =
-          left_pays_on (length d.nodes) c.args.steps.now (length c.args.source.now.bits) 2 (frame.Many c.args.i c.args.part) (ap (λ (l : List ℕ). length l) c.ready-ready.ensures.same.bits) refl refl
+          left_pays_on (length d.nodes) c.args.steps.now (length c.args.source.now.bits) 2
+          (frame.Many c.args.i c.args.part) (ap (λ (l : List ℕ). length l) c.ready-ready.ensures.same.bits)
+          refl refl
           (omega (arith, c.leave.ensures.step, c.pick.ensures.step)) (omega arith) (omega arith);
     }
 
@@ -96,9 +120,14 @@ pub returns-in-Take-clause-pays : goal.returns-in-Take-clause-pays
 returns-in-Take-clause-pays g c =
     let d : DescV = c.args.self.now.plan.now in
     let k = free_stands d c.requires.stands.shows in
-    let stack = subst (λ (l : List Left). IsStack d c.args.self.now.pace.next (fresh_at c.args.self.now.pace (length c.requires.done)) l c.requires.done) k.is c.requires.stands.stack_is in
-    begun_pays_on c.args.steps.now 1 (frame.Many c.args.i c.args.part) _ (ap (λ (l : List ℕ). length l) c.ready-ready.ensures.same.bits) (ap (λ (l : List Frame). frame.Begin c.args.part ∷ l) c.begin.ensures.frames) c.begin.ensures.pace c.pick.ensures.step
-    (begun_within d (of_begun d (free_begins d c.args.self.now.pace c.requires.known stack))) (free_goes_back d c.args.self.now.pace c.requires.known stack) (omega arith) (omega arith)
+    let stack = subst (λ (l : List Left). IsStack d c.args.self.now.pace.next
+    (fresh_at c.args.self.now.pace (length c.requires.done)) l c.requires.done) k.is c.requires.stands.stack_is in
+    begun_pays_on c.args.steps.now 1 (frame.Many c.args.i c.args.part) _
+    (ap (λ (l : List ℕ). length l) c.ready-ready.ensures.same.bits)
+    (ap (λ (l : List Frame). frame.Begin c.args.part ∷ l) c.begin.ensures.frames)
+    c.begin.ensures.pace c.pick.ensures.step
+    (begun_within d (of_begun d (free_begins d c.args.self.now.pace c.requires.known stack)))
+    (free_goes_back d c.args.self.now.pace c.requires.known stack) (omega arith) (omega arith)
 
 pub pick-requires-clause-few : goal.pick-requires-clause-few
 pick-requires-clause-few g c = omega (arith, c.ready-ready.ensures.count)
@@ -108,7 +137,11 @@ pick-requires-clause-held g c = omega (arith, c.ready-ready.ensures.count, c.rea
 
 pub returns-then-not-is_closed-clause-pays : goal.returns-then-not-is_closed-clause-pays
 returns-then-not-is_closed-clause-pays g c =
-    waits_pay (length c.args.self.now.plan.now.nodes) c.args.steps.now c.args.steps.now 0 (frame.Many c.args.i c.args.part) (reverse c.args.self.now.frames.items) c.args.self.now.pace (length c.args.source.now.bits) (pushed c.args.self.now.frames.items (frame.Many c.args.i c.args.part) c.push.ensures.items) (ap (λ (l : List ℕ). length l) c.ready-ready.ensures.same.bits) (omega arith) (omega arith) (omega arith)
+    waits_pay (length c.args.self.now.plan.now.nodes) c.args.steps.now c.args.steps.now 0
+    (frame.Many c.args.i c.args.part) (reverse c.args.self.now.frames.items) c.args.self.now.pace
+    (length c.args.source.now.bits) (pushed c.args.self.now.frames.items (frame.Many c.args.i c.args.part)
+    c.push.ensures.items) (ap (λ (l : List ℕ). length l) c.ready-ready.ensures.same.bits) (omega arith)
+    (omega arith) (omega arith)
 
 pub returns-then-not-is_closed-clause-waits : goal.returns-then-not-is_closed-clause-waits
 returns-then-not-is_closed-clause-waits g c = λ waits. omega arith

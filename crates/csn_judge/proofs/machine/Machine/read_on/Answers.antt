@@ -13,6 +13,8 @@ node-node-requires g c =
 pub returns-clause-pays : goal.returns-clause-pays
 returns-clause-pays g c =
     let d : DescV = c.args.self.now.plan.now in
-    let before = credit_of (length d.nodes) (frame.Leaf c.args.i c.args.leaf ∷ reverse c.args.self.now.frames.items) c.args.self.now.pace (length c.args.source.now.bits) in
+    let before = credit_of (length d.nodes) (frame.Leaf c.args.i c.args.leaf ∷ reverse c.args.self.now.frames.items)
+    c.args.self.now.pace (length c.args.source.now.bits) in
     let after = credit_of (length d.nodes) (reverse c.read.new.self.frames.items) c.read.new.self.pace (length c.read.new.source.bits) in
-    subst (λ (k : ℕ). Pays before after c.args.steps.now k c.read.result) (sym c.node-node.ensures.step) (paid_with before after c.args.steps.now c.read.result c.read.ensures.pays)
+    subst (λ (k : ℕ). Pays before after c.args.steps.now k c.read.result) (sym c.node-node.ensures.step)
+    (paid_with before after c.args.steps.now c.read.result c.read.ensures.pays)

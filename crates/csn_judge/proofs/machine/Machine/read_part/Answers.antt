@@ -19,24 +19,44 @@ read-read-requires g c =
 
 pub put-requires : goal.put-requires
 put-requires g c =
-    omega (arith, frames_room c.args.self.now.plan.now c.requires.stands.stands.shows c.requires.stands.stands.stack_is, no_fewer c.args.behind (reverse c.args.self.now.frames.items), length-reverse c.args.self.now.frames.items)
+    omega (
+      arith,
+      frames_room c.args.self.now.plan.now c.requires.stands.stands.shows
+          c.requires.stands.stands.stack_is,
+      no_fewer c.args.behind (reverse c.args.self.now.frames.items),
+      length-reverse c.args.self.now.frames.items,
+    )
 
 pub push-requires : goal.push-requires
-push-requires g c =
-    (lit< tt, omega (arith, frames_room c.args.self.now.plan.now c.requires.stands.stands.shows c.requires.stands.stands.stack_is, ap (λ (l : List Frame). length l) c.put.ensures, length-reverse c.put.new.frames.items))
+push-requires g c = (
+  lit< tt,
+  omega (
+    arith,
+    frames_room c.args.self.now.plan.now c.requires.stands.stands.shows
+        c.requires.stands.stands.stack_is,
+    ap (λ (l : List Frame). length l) c.put.ensures,
+    length-reverse c.put.new.frames.items,
+  ),
+)
 
 pub returns-in-All : goal.returns-in-All
 returns-in-All g c = record {
   turns =
       let d : DescV = c.args.self.now.plan.now in
-      turns_all d g.T.Track.takes c.args.track.now c.args.self.now.values.items c.args.self.now.pace c.args.source.now c.read-read.new.source c.args.i (over c.args.behind (reverse c.args.self.now.frames.items)) c.args.node.now
+      turns_all d g.T.Track.takes c.args.track.now c.args.self.now.values.items c.args.self.now.pace c.args.source.now
+      c.read-read.new.source c.args.i (over c.args.behind (reverse c.args.self.now.frames.items)) c.args.node.now
       c.read-read.new.track c.step.new.self (nat_lt c.place-before.result c.place.result) c.requires.node c.requires.stands.known c.bits.ensures
       (λ e. omega (arith, ltb-false c.place-before.result c.place.result e, c.place-before.ensures.place, c.place.ensures.place))
       (c.in-All.ensures d (sym c.reading.ensures)) c.step.ensures;
   pays =
-      all_pays c.args.self.now.plan.now g.T.Track.takes c.args.track.now c.read-read.new.track c.args.self.now.values.items c.args.self.now.pace c.args.source.now c.read-read.new.source c.args.i (over c.args.behind (reverse c.args.self.now.frames.items)) c.args.node.now (frame.Leaf c.args.i c.args.leaf)
+      all_pays c.args.self.now.plan.now g.T.Track.takes c.args.track.now c.read-read.new.track
+      c.args.self.now.values.items c.args.self.now.pace c.args.source.now c.read-read.new.source c.args.i
+      (over c.args.behind (reverse c.args.self.now.frames.items)) c.args.node.now
+      (frame.Leaf c.args.i c.args.leaf)
       c.requires.node c.requires.stands.known (c.in-All.ensures c.args.self.now.plan.now (sym c.reading.ensures)) c.requires.stands.stands (lit< tt)
-      (c.bits.ensures ∙ ap (λ b. paced b c.args.self.now.pace) (ap (λ p. nat_lt p c.place.result) c.place-before.ensures.place ∙ ap (λ p. nat_lt c.args.source.now.place p) c.place.ensures.place));
+      (c.bits.ensures ∙ ap (λ b. paced b c.args.self.now.pace)
+      (ap (λ p. nat_lt p c.place.result) c.place-before.ensures.place ∙ ap (λ p. nat_lt c.args.source.now.place p)
+      c.place.ensures.place));
   plan = refl;
 }
 
@@ -44,31 +64,48 @@ pub returns-then-took : goal.returns-then-took
 returns-then-took g c = record {
   turns =
       let d : DescV = c.args.self.now.plan.now in
-      turns_some d g.T.Track.takes c.args.track.now c.args.self.now.values.items c.args.self.now.pace c.args.source.now c.read-read.new.source c.args.i (over c.args.behind (reverse c.args.self.now.frames.items)) c.args.node.now
+      turns_some d g.T.Track.takes c.args.track.now c.args.self.now.values.items c.args.self.now.pace
+      c.args.source.now c.read-read.new.source c.args.i
+      (over c.args.behind (reverse c.args.self.now.frames.items)) c.args.node.now
       c.read-read.new.track (nat_lt c.place-before.result c.place.result) c.requires.node c.requires.stands.known c.bits.ensures
       (λ e. omega (arith, ltb-false c.place-before.result c.place.result e, c.place-before.ensures.place, c.place.ensures.place))
-      (pushed c.put.new.frames.items (frame.Leaf c.args.i c.in-Some.leaf) c.push.ensures.items ∙ ap (λ (l : List Frame). frame.Leaf c.args.i c.in-Some.leaf ∷ l) c.put.ensures)
+      (pushed c.put.new.frames.items (frame.Leaf c.args.i c.in-Some.leaf) c.push.ensures.items ∙ ap
+      (λ (l : List Frame). frame.Leaf c.args.i c.in-Some.leaf ∷ l) c.put.ensures)
       (c.in-Some.ensures d (sym c.reading.ensures));
   pays =
-      some_pays c.args.self.now.plan.now g.T.Track.takes c.args.track.now c.read-read.new.track c.args.self.now.values.items c.args.self.now.pace c.args.source.now c.read-read.new.source c.args.i (over c.args.behind (reverse c.args.self.now.frames.items)) c.args.node.now (frame.Leaf c.args.i c.args.leaf)
-      c.requires.node c.requires.stands.known (c.in-Some.ensures c.args.self.now.plan.now (sym c.reading.ensures)) c.requires.stands.stands (slice_get_within _ _ _ c.requires.node) refl
-      (pushed c.put.new.frames.items (frame.Leaf c.args.i c.in-Some.leaf) c.push.ensures.items ∙ ap (λ (l : List Frame). frame.Leaf c.args.i c.in-Some.leaf ∷ l) c.put.ensures)
+      some_pays c.args.self.now.plan.now g.T.Track.takes c.args.track.now c.read-read.new.track
+      c.args.self.now.values.items c.args.self.now.pace c.args.source.now c.read-read.new.source c.args.i
+      (over c.args.behind (reverse c.args.self.now.frames.items)) c.args.node.now
+      (frame.Leaf c.args.i c.args.leaf)
+      c.requires.node c.requires.stands.known (c.in-Some.ensures c.args.self.now.plan.now (sym c.reading.ensures))
+      c.requires.stands.stands (slice_get_within _ _ _ c.requires.node) refl
+      (pushed c.put.new.frames.items (frame.Leaf c.args.i c.in-Some.leaf) c.push.ensures.items ∙ ap
+      (λ (l : List Frame). frame.Leaf c.args.i c.in-Some.leaf ∷ l) c.put.ensures)
       (omega (arith, c.if-took.true, c.place-before.ensures.place, c.place.ensures.place))
-      (c.bits.ensures ∙ ap (λ b. paced b c.args.self.now.pace) (ap (λ p. nat_lt p c.place.result) c.place-before.ensures.place ∙ ap (λ p. nat_lt c.args.source.now.place p) c.place.ensures.place));
+      (c.bits.ensures ∙ ap (λ b. paced b c.args.self.now.pace)
+      (ap (λ p. nat_lt p c.place.result) c.place-before.ensures.place ∙ ap (λ p. nat_lt c.args.source.now.place p)
+      c.place.ensures.place));
   plan = refl;
 }
 
 pub returns-else-took-clause-turns : goal.returns-else-took-clause-turns
 returns-else-took-clause-turns g c =
     let d : DescV = c.args.self.now.plan.now in
-    turns_stopped d g.T.Track.takes c.args.track.now c.args.self.now.values.items c.args.self.now.pace c.args.source.now c.read-read.new.source c.args.i (over c.args.behind (reverse c.args.self.now.frames.items)) c.args.node.now
-    c.read-read.new.track c.stopped.result (nat_lt c.place-before.result c.place.result) c.requires.node c.requires.stands.known c.bits.ensures (not_less c.place-before.result c.place.result c.if-took.false)
+    turns_stopped d g.T.Track.takes c.args.track.now c.args.self.now.values.items c.args.self.now.pace
+    c.args.source.now c.read-read.new.source c.args.i (over c.args.behind (reverse c.args.self.now.frames.items))
+    c.args.node.now
+    c.read-read.new.track c.stopped.result (nat_lt c.place-before.result c.place.result)
+    c.requires.node c.requires.stands.known c.bits.ensures
+    (not_less c.place-before.result c.place.result c.if-took.false)
     (omega (arith, c.if-took.false, c.place-before.ensures.place, c.place.ensures.place)) c.place.ensures.fits c.place.ensures.nothing c.stopped.ensures
-    (pushed c.put.new.frames.items (frame.Leaf c.args.i c.in-Some.leaf) c.push.ensures.items ∙ ap (λ (l : List Frame). frame.Leaf c.args.i c.in-Some.leaf ∷ l) c.put.ensures)
+    (pushed c.put.new.frames.items (frame.Leaf c.args.i c.in-Some.leaf) c.push.ensures.items ∙ ap
+    (λ (l : List Frame). frame.Leaf c.args.i c.in-Some.leaf ∷ l) c.put.ensures)
     (c.in-Some.ensures d (sym c.reading.ensures))
 
 pub returns-in-Refused-clause-turns : goal.returns-in-Refused-clause-turns
 returns-in-Refused-clause-turns g c =
     let d : DescV = c.args.self.now.plan.now in
-    turns_refused d g.T.Track.takes c.args.track.now c.args.self.now.values.items c.args.self.now.pace c.args.source.now c.read-read.new.source c.args.i (over c.args.behind (reverse c.args.self.now.frames.items)) c.args.node.now
+    turns_refused d g.T.Track.takes c.args.track.now c.args.self.now.values.items c.args.self.now.pace
+    c.args.source.now c.read-read.new.source c.args.i (over c.args.behind (reverse c.args.self.now.frames.items))
+    c.args.node.now
     c.read-read.new.track c.in-Refused.place c.requires.node c.requires.stands.known (c.in-Refused.ensures d (sym c.reading.ensures))

@@ -14,9 +14,17 @@ returns-clause-turns g c = λ yes behind some stack done stands.
     let long : width ≤ length c.ready.new.self.bits = omega (arith, c.ready.ensures.count, c.if-ready-width.false) in
     let many = as_many_taken width c.ready.new.self.bits c.peek-number.ensures.written long in
     let took = c.take.ensures.rest in
-    let P : Pace → Type 0 = λ p. GoesOn d g.T.Track.takes (state_at (frame.Begin c.args.i ∷ behind) c.args.self.now c.args.source.now) (record { frames = behind; values = c.args.self.now.values.items; pace = p; coming = c.take.new.self }) c.args.track.now c.whole.new.self stack done in
+    let P : Pace → Type 0 = λ p. GoesOn d g.T.Track.takes (state_at (frame.Begin c.args.i ∷ behind)
+    c.args.self.now c.args.source.now) (record {
+      frames = behind;
+      values = c.args.self.now.values.items;
+      pace =
+          p;
+      coming = c.take.new.self;
+    }) c.args.track.now c.whole.new.self stack done in
     subst P (sym c.bits.ensures)
-    (whole_read d g.T.Track.takes c.args.track.now c.whole.new.self c.args.self.now.values.items c.args.self.now.pace c.args.source.now c.take.new.self c.args.i behind
+    (whole_read d g.T.Track.takes c.args.track.now c.whole.new.self c.args.self.now.values.items c.args.self.now.pace
+    c.args.source.now c.take.new.self c.args.i behind
     (nat_lt 0 width) some.known c.in-Some.ensures.laid
     (λ o v. c.admits.ensures c.if-not-admits.false d c.args.i o v c.in-Some.ensures)
     (c.whole.ensures.told c.if-not-whole.false)

@@ -19,6 +19,7 @@ returns-then-given-behind-clause-differs c =
     let given : take next (low_bits c.args.count c.peek-given.result) ≡ take next (low_bits c.args.count c.args.number) =
     sym (sym (take-take next c.args.count c.args.self.now.bits (omega (arith, less)))
     ∙ ap (λ (l : List ℕ). take next l) (sym c.peek-given.ensures.written)) ∙ same in
-    let equal = first_bits-number next c.args.count c.peek-given.result c.args.number (omega (arith, less)) c.peek-given.ensures.small c.requires.small given in
+    let equal = first_bits-number next c.args.count c.peek-given.result c.args.number (omega (arith, less))
+    c.peek-given.ensures.small c.requires.small given in
     let e : c.args.count - next ≡ c.args.count - 1 - c.loop-at.at = omega arith in
     c.if-given-behind.true (rw e at equal)

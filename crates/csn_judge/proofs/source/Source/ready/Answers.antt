@@ -16,7 +16,8 @@ returns-clause-good c =
     record {
       bits =
           subst (λ (s : Coming). IsBits s.bits) c.self.view_is
-          (IsBits-coming c.self.inside.held.count c.self.inside.held.number c.self.inside.piece.now c.self.inside.at c.self.inside.left c.self.invariant.octets);
+          (IsBits-coming c.self.inside.held.count c.self.inside.held.number c.self.inside.piece.now c.self.inside.at
+          c.self.inside.left c.self.invariant.octets);
       fits = omega (arith, k.all, k.place, c.self.invariant.fits);
       inside = omega (arith, k.place, k.limit, c.self.invariant.inside);
       nothing = λ ended. nil_from_length _ (omega (arith, k.all, c.self.invariant.nothing (sym k.ended ∙ ended)));

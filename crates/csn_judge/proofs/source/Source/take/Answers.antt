@@ -24,6 +24,20 @@ invariant_of-self c =
 pub returns-clause-rest : goal.returns-clause-rest
 returns-clause-rest c =
     let k = known _ _ c.self.invariant c.self.view_is in
-    ap (λ (l : List ℕ). record { bits = l; held = c.self.inside.held.count - c.args.count; place = c.self.inside.place + c.args.count; limit = c.self.inside.limit; ended = c.self.inside.ended })
+    ap (λ (l : List ℕ). record {
+      bits = l;
+      held = c.self.inside.held.count - c.args.count;
+      place =
+          c.self.inside.place + c.args.count;
+      limit = c.self.inside.limit;
+      ended = c.self.inside.ended;
+    })
     (left_over c.self.inside.held.count c.self.inside.held.number c.args.count _ (omega (arith, c.requires.held, k.held)))
-    ∙ ap (λ (s : Coming). record { bits = drop c.args.count s.bits; held = s.held - c.args.count; place = s.place + c.args.count; limit = s.limit; ended = s.ended }) c.self.view_is
+    ∙ ap (λ (s : Coming). record {
+      bits = drop c.args.count s.bits;
+      held = s.held - c.args.count;
+      place =
+          s.place + c.args.count;
+      limit = s.limit;
+      ended = s.ended;
+    }) c.self.view_is

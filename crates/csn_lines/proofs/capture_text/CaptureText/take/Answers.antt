@@ -12,15 +12,28 @@ use Rattle.csn_lines.proofs.capture_text.CaptureText.take.Goals as goal
 
 pub take-requires : goal.take-requires
 take-requires c =
-    let here = writer_at c.args.self.now.writers.items c.place_of.result c.index_mut.result.now (omega (arith, c.place_of.ensures.within, c.args.self.now.all)) c.index_mut.ensures.value in
+    let here = writer_at c.args.self.now.writers.items c.place_of.result c.index_mut.result.now
+    (omega (arith, c.place_of.ensures.within, c.args.self.now.all)) c.index_mut.ensures.value in
     let line = c.requires.0 in
     let taken = c.requires.1.each c.place_of.result c.index_mut.result.now here in
     let few = taken_few c.args.self.now.head line c.place_of.result in
-    record { few = omega (arith, taken.count, few, c.requires.2, ap length (slice_from c.take-from.result c.args.bytes.now), length-drop c.take-from.result c.args.bytes.now) }
+    record {
+      few =
+          omega (
+            arith,
+            taken.count,
+            few,
+            c.requires.2,
+            ap length (slice_from c.take-from.result c.args.bytes.now),
+            length-drop c.take-from.result c.args.bytes.now,
+          );
+    }
 
 pub invariant_of-self : goal.invariant_of-self
 invariant_of-self c =
-    let kept = seven_texts c.args.self.now.writers.items c.place_of.result c.index_mut.result.now c.take.new.self c.args.self.now.all c.place_of.ensures.within c.index_mut.ensures.value c.take.ensures.form c.args.self.now.texts in record { all = kept.0; texts = kept.1 }
+    let kept = seven_texts c.args.self.now.writers.items c.place_of.result c.index_mut.result.now c.take.new.self
+    c.args.self.now.all c.place_of.ensures.within c.index_mut.ensures.value c.take.ensures.form
+    c.args.self.now.texts in record { all = kept.0; texts = kept.1 }
 
 pub returns-in-Block-clause-reads : goal.returns-in-Block-clause-reads
 returns-in-Block-clause-reads c = λ line reads.
@@ -37,7 +50,8 @@ returns-in-Block-clause-reads c = λ line reads.
     let is : c.take-from.new.self ≡ Block entry = c.in-Block.is in
     let head : HeadOf (Block entry) (line ++ bytes) = subst (λ (h : CaptureHead). HeadOf h (line ++ bytes)) is (c.take-from.ensures.head line reads.head_is) in
     let block : block_so_far (Block entry) (line ++ bytes) ≡ block_so_far c.args.self.now.head line ++ drop from bytes =
-    subst (λ (h : CaptureHead). block_so_far h (line ++ bytes) ≡ block_so_far c.args.self.now.head line ++ drop from bytes) is (c.take-from.ensures.block line reads.head_is) in
+    subst (λ (h : CaptureHead). block_so_far h (line ++ bytes) ≡ block_so_far c.args.self.now.head line ++ drop from
+    bytes) is (c.take-from.ensures.block line reads.head_is) in
     let takes : (l : List ℕ) → ReadsLine old l → ReadsLine new (l ++ drop from bytes) =
     λ l r. subst (λ (b : List ℕ). ReadsLine new (l ++ b)) (slice_from from bytes) (c.take.ensures.reads l r) in
     let now : ReadsCapture (set writers (entry_place entry) new) (Block entry) (line ++ bytes) =
@@ -46,11 +60,14 @@ returns-in-Block-clause-reads c = λ line reads.
     (subst (λ (h : CaptureHead). ReadsCapture (set writers (entry_place entry) new) h (line ++ bytes)) (sym is) now)
 
 pub returns-in-Block-clause-descs : goal.returns-in-Block-clause-descs
-returns-in-Block-clause-descs c = same_descs c.args.self.now.writers.items c.place_of.result c.index_mut.result.now c.take.new.self c.args.self.now.all c.place_of.ensures.within c.index_mut.ensures.value c.take.ensures.desc
+returns-in-Block-clause-descs c = same_descs c.args.self.now.writers.items c.place_of.result c.index_mut.result.now
+    c.take.new.self c.args.self.now.all c.place_of.ensures.within c.index_mut.ensures.value c.take.ensures.desc
 
 pub returns-in_default : goal.returns-in_default
 returns-in_default c = record {
   reads = λ line reads.
-      head_goes_on c.args.self.now.writers.items c.args.self.now.head c.take-from.new.self line c.args.bytes.now (drop c.take-from.result c.args.bytes.now) reads (c.take-from.ensures.head line reads.head_is) (c.take-from.ensures.block line reads.head_is) c.in_default.not-Block;
+      head_goes_on c.args.self.now.writers.items c.args.self.now.head c.take-from.new.self line c.args.bytes.now
+      (drop c.take-from.result c.args.bytes.now) reads (c.take-from.ensures.head line reads.head_is)
+      (c.take-from.ensures.block line reads.head_is) c.in_default.not-Block;
   descs = refl;
 }

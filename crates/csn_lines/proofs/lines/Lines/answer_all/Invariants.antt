@@ -9,7 +9,9 @@ abbrev pub invariant-pieces : goal.invariant-pieces
 invariant-pieces g l = record {
   line : List ℕ;
   at_line : AtLine (g.C.LineCommand.reads l.command) l.self.given l.self.held line;
-  standing : Standing (Works (g.C.LineCommand.work l.fn.command)) (g.C.LineCommand.kept l.fn.command) (g.S.Source.left l.fn.input) (g.S.Source.left l.input) (g.K.Sink.taken l.fn.out) (g.K.Sink.taken l.out) line l.self.pending.items (g.C.LineCommand.kept l.command) l.self.refused l.room;
+  standing : Standing (Works (g.C.LineCommand.work l.fn.command)) (g.C.LineCommand.kept l.fn.command)
+      (g.S.Source.left l.fn.input) (g.S.Source.left l.input) (g.K.Sink.taken l.fn.out) (g.K.Sink.taken l.out)
+      line l.self.pending.items (g.C.LineCommand.kept l.command) l.self.refused l.room;
   work : g.C.LineCommand.work l.command ≡ g.C.LineCommand.work l.fn.command;
   input : Keeps (g.S.Source.steady l.fn.input) (g.S.Source.steady l.input) (g.S.Source.faults l.fn.input) (g.S.Source.faults l.input) ⊥;
   out : Keeps (g.K.Sink.steady l.fn.out) (g.K.Sink.steady l.out) (g.K.Sink.faults l.fn.out) (g.K.Sink.faults l.out) ⊥;

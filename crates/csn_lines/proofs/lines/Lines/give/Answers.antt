@@ -19,6 +19,8 @@ pub returns : goal.returns
 returns g c = record {
   ok = λ line stands.
       let whole = c.in_ok-give_held.ensures.ok line stands in
-      at_more line c.args.bytes.now _ stands.unended c.requires.unended (omega (arith, c.if-bytes-eq0.false)) c.split_return-held.ensures.front c.split_return-held.ensures.all (c.in_ok-take.ensures.reads line whole.0) (omega (arith, whole.1));
+      at_more line c.args.bytes.now _ stands.unended c.requires.unended (omega (arith, c.if-bytes-eq0.false))
+      c.split_return-held.ensures.front c.split_return-held.ensures.all (c.in_ok-take.ensures.reads line whole.0)
+      (omega (arith, whole.1));
   rest = gives_then c.in_ok-give_held.ensures.rest c.in_ok-take.ensures.work c.in_ok-take.ensures.kept refl refl;
 }

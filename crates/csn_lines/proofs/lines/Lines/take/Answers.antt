@@ -18,13 +18,25 @@ returns-in_err-give-clause-err g c =
 
 pub end_line-requires : goal.end_line-requires
 end_line-requires g c =
-    let here = c.loop-front.invariant.so_far c.requires.0 c.requires.1 in
-    (here.0 ++ c.in-Some.front.now, c.in_ok-give.ensures.ok here.0 here.1, omega (arith, here.3, c.requires.2, ap length c.in-Some.ensures.some.0, length-append c.in-Some.front.now (10 ∷ c.in-Some.back.now), length-append here.0 c.in-Some.front.now))
+    let here = c.loop-front.invariant.so_far c.requires.0 c.requires.1 in (
+      here.0 ++ c.in-Some.front.now,
+      c.in_ok-give.ensures.ok here.0 here.1,
+      omega (
+        arith,
+        here.3,
+        c.requires.2,
+        ap length c.in-Some.ensures.some.0,
+        length-append c.in-Some.front.now
+            (10 ∷ c.in-Some.back.now),
+        length-append here.0 c.in-Some.front.now,
+      ),
+    )
 
 pub returns-in_err-end_line-clause-err : goal.returns-in_err-end_line-clause-err
 returns-in_err-end_line-clause-err g c =
     let p = err_from_is_err_and c.from_residual-in_err-end_line.result c.from_residual-in_err-end_line.ensures.1 in
-    rw p.1 (λ line stands. rw (c.in_err-end_line.ensures.err, c.give.ensures.rest.pending) (so_far_halts _ _ _ _ _ _ _ _ _ (c.loop-front.invariant.so_far line stands).2))
+    rw p.1 (λ line stands. rw (c.in_err-end_line.ensures.err, c.give.ensures.rest.pending)
+    (so_far_halts _ _ _ _ _ _ _ _ _ (c.loop-front.invariant.so_far line stands).2))
 
 pub loop-front-preserved : goal.loop-front-preserved
 loop-front-preserved g c =
@@ -32,7 +44,14 @@ loop-front-preserved g c =
     record {
       so_far = λ line stands.
           let here = c.loop-front.invariant.so_far line stands in
-          let ended = rw (c.give.ensures.rest.work, c.give.ensures.rest.kept, c.give.ensures.rest.pending, c.give.ensures.rest.refused, c.loop-front.invariant.work) at c.in_ok-end_line.ensures.ok (here.0 ++ c.in-Some.front.now) (c.in_ok-give.ensures.ok here.0 here.1) in (
+          let ended = rw (
+            c.give.ensures.rest.work,
+            c.give.ensures.rest.kept,
+            c.give.ensures.rest.pending,
+            c.give.ensures.rest.refused,
+            c.loop-front.invariant.work,
+          ) at c.in_ok-end_line.ensures.ok
+          (here.0 ++ c.in-Some.front.now) (c.in_ok-give.ensures.ok here.0 here.1) in (
             [],
             c.in_ok-end_line.ensures.anew,
             so_far_line _ _ _ _ _ _ _ _ _ _ _ _ _ _ here.2 parts.0 parts.1 ended.1 ended.2,

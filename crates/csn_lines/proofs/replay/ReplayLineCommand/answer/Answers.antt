@@ -20,7 +20,10 @@ returns-in-Ok-clause-ok g c = λ line reads some.
     let told = c.in_ok-answered.ensures.ok line reads in
     let taken = reported _ _ _ _ _ c.in-Ok.is c.tell.ensures.wrote c.new-reports.ensures.taken c.taken.ensures in (
       told.0 ++ 10 ∷ c.taken.result.now,
-      c.in_ok-extend_from_slice-in-Ok.ensures.items ∙ ap (λ l. l ++ c.taken.result.now) (c.in_ok-push.ensures.items ∙ ap (λ l. l ++ 10 ∷ []) told.1 ∙ append_assoc _ told.0 (10 ∷ [])) ∙ append_assoc _ (told.0 ++ 10 ∷ []) c.taken.result.now ∙ ap (λ l. c.args.out.now.items ++ l) (append_assoc told.0 (10 ∷ []) c.taken.result.now),
+      c.in_ok-extend_from_slice-in-Ok.ensures.items ∙ ap (λ l. l ++ c.taken.result.now)
+          (c.in_ok-push.ensures.items ∙ ap (λ l. l ++ 10 ∷ []) told.1 ∙ append_assoc _ told.0 (10 ∷ []))
+          ∙ append_assoc _ (told.0 ++ 10 ∷ []) c.taken.result.now ∙ ap (λ l. c.args.out.now.items ++ l)
+          (append_assoc told.0 (10 ∷ []) c.taken.result.now),
       (told.0, Some c.in-Some.seen, (rw c.in-Some.is at told.2), (ap (λ r. told.0 ++ 10 ∷ r) taken, c.tell.ensures.watchers)),
       told.3 ∙ sym (refusal_with_feed told.0 c.taken.result.now),
     )
@@ -58,10 +61,14 @@ pub returns-in_default-clause-work : goal.returns-in_default-clause-work
 returns-in_default-clause-work g c = ap replaying_by c.in_ok-answered.ensures.descs
 
 pub returns-in_err-extend_from_slice-in-Ok-clause-ok : goal.returns-in_err-extend_from_slice-in-Ok-clause-ok
-returns-in_err-extend_from_slice-in-Ok-clause-ok g c = IfOk-from_err c.from_residual-in_err-extend_from_slice-in-Ok.result _ c.from_residual-in_err-extend_from_slice-in-Ok.ensures.0
+returns-in_err-extend_from_slice-in-Ok-clause-ok g c =
+    IfOk-from_err c.from_residual-in_err-extend_from_slice-in-Ok.result _
+    c.from_residual-in_err-extend_from_slice-in-Ok.ensures.0
 
 pub returns-in_err-extend_from_slice-in-Ok-clause-anew : goal.returns-in_err-extend_from_slice-in-Ok-clause-anew
-returns-in_err-extend_from_slice-in-Ok-clause-anew g c = on_ok_none c.from_residual-in_err-extend_from_slice-in-Ok.result _ c.from_residual-in_err-extend_from_slice-in-Ok.ensures.0
+returns-in_err-extend_from_slice-in-Ok-clause-anew g c =
+    on_ok_none c.from_residual-in_err-extend_from_slice-in-Ok.result _
+    c.from_residual-in_err-extend_from_slice-in-Ok.ensures.0
 
 pub returns-in_err-extend_from_slice-in-Ok-clause-work : goal.returns-in_err-extend_from_slice-in-Ok-clause-work
 returns-in_err-extend_from_slice-in-Ok-clause-work g c = ap replaying_by c.in_ok-answered.ensures.descs
@@ -69,7 +76,9 @@ returns-in_err-extend_from_slice-in-Ok-clause-work g c = ap replaying_by c.in_ok
 pub returns-in_err-extend_from_slice-in-Ok-clause-err : goal.returns-in_err-extend_from_slice-in-Ok-clause-err
 returns-in_err-extend_from_slice-in-Ok-clause-err g c =
     let told = c.in_ok-answered.ensures.ok c.requires.0 c.requires.1 in
-    OnErr-from c.from_residual-in_err-extend_from_slice-in-Ok.result (grown _ _ _ told.0 (10 ∷ []) told.1 (c.in_err-extend_from_slice-in-Ok.ensures.items ∙ c.in_ok-push.ensures.items))
+    OnErr-from c.from_residual-in_err-extend_from_slice-in-Ok.result
+    (grown _ _ _ told.0 (10 ∷ []) told.1 (c.in_err-extend_from_slice-in-Ok.ensures.items
+    ∙ c.in_ok-push.ensures.items))
 
 pub returns-in-Ok-clause-anew : goal.returns-in-Ok-clause-anew
 returns-in-Ok-clause-anew g c = c.in_ok-answered.ensures.anew c.requires.0 c.requires.1
@@ -81,7 +90,8 @@ pub returns-in-WriteFault-clause-work : goal.returns-in-WriteFault-clause-work
 returns-in-WriteFault-clause-work g c = ap replaying_by c.in_ok-answered.ensures.descs
 
 pub returns-in-WriteFault-clause-err : goal.returns-in-WriteFault-clause-err
-returns-in-WriteFault-clause-err g c = let told = c.in_ok-answered.ensures.ok c.requires.0 c.requires.1 in grown _ _ _ told.0 (10 ∷ []) told.1 c.in_ok-push.ensures.items
+returns-in-WriteFault-clause-err g c = let told = c.in_ok-answered.ensures.ok c.requires.0 c.requires.1 in
+    grown _ _ _ told.0 (10 ∷ []) told.1 c.in_ok-push.ensures.items
 
 pub returns-clause-work : goal.returns-clause-work
 returns-clause-work g c = ap replaying_by c.in_ok-answered.ensures.descs

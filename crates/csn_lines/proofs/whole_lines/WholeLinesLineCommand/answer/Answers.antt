@@ -33,7 +33,8 @@ pub returns-in_err-push-clause-work : goal.returns-in_err-push-clause-work
 returns-in_err-push-clause-work g c = c.in_ok-answered.ensures.work
 
 pub returns-in_err-push-clause-err : goal.returns-in_err-push-clause-err
-returns-in_err-push-clause-err g c = let told = c.in_ok-answered.ensures.ok in OnErr-from c.from_residual-in_err-push.result (told.0, c.in_err-push.ensures.items ∙ told.1)
+returns-in_err-push-clause-err g c = let told = c.in_ok-answered.ensures.ok in
+    OnErr-from c.from_residual-in_err-push.result (told.0, c.in_err-push.ensures.items ∙ told.1)
 
 pub returns-clause-anew : goal.returns-clause-anew
 returns-clause-anew g c = c.clear.ensures.items

@@ -5,7 +5,8 @@ use Rattle.csn_look.proofs.key_rows.Rowed.are_same.Goals as goal
 
 pub loop-at-preserved : goal.loop-at-preserved
 loop-at-preserved c =
-    alike_next c.args.self.now.desc.now c.args.tables.now c.args.parts.now c.of.result c.loop-at.at c.get.result c.get.ensures c.of.ensures (c.is_same.ensures c.if-not-is_same.false) c.loop-at.invariant
+    alike_next c.args.self.now.desc.now c.args.tables.now c.args.parts.now c.of.result c.loop-at.at c.get.result
+    c.get.ensures c.of.ensures (c.is_same.ensures c.if-not-is_same.false) c.loop-at.invariant
 
 pub returns : goal.returns
 returns c = λ yes j i o word mark at low is.

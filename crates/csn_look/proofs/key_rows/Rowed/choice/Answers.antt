@@ -9,13 +9,17 @@ pub returns-then-are_same : goal.returns-then-are_same
 returns-then-are_same c =
     let d = c.args.self.now.desc.now in
     let alike = choice_alike d c.args.parts.now c.in_ok-table.table (c.are_same.ensures c.if-are_same.true) c.in_ok-table.ensures in
-    same_tables c.same_row.result c.args.tables.now c.same_row.new.tables c.in_ok-table.table (NodeKeys d 12 (Choice c.args.parts.now)) alike c.same_row.ensures
+    same_tables c.same_row.result c.args.tables.now c.same_row.new.tables c.in_ok-table.table
+    (NodeKeys d 12 (Choice c.args.parts.now)) alike c.same_row.ensures
 
 pub loop-octet-preserved : goal.loop-octet-preserved
 loop-octet-preserved c =
     let keys = NodeKeys c.args.self.now.desc.now 12 (Choice c.args.parts.now) in
-    row_next c.args.tables.now c.loop-octet.tables c.keep.new.self c.loop-octet.row c.loop-octet.octet c.in_ok-row.field-0 keys c.loop-octet-test.true c.loop-octet.invariant
-    (kept_table c.loop-octet.tables c.keep.new.self c.in_ok-row.field-0 c.in_ok-table-2.table (keys c.loop-octet.octet) c.in_ok-row.ensures.more c.in_ok-row.ensures.kept.0 c.in_ok-row.ensures.kept.1 c.in_ok-table-2.ensures)
+    row_next c.args.tables.now c.loop-octet.tables c.keep.new.self c.loop-octet.row c.loop-octet.octet
+    c.in_ok-row.field-0 keys c.loop-octet-test.true c.loop-octet.invariant
+    (kept_table c.loop-octet.tables c.keep.new.self c.in_ok-row.field-0 c.in_ok-table-2.table
+    (keys c.loop-octet.octet) c.in_ok-row.ensures.more c.in_ok-row.ensures.kept.0 c.in_ok-row.ensures.kept.1
+    c.in_ok-table-2.ensures)
 
 pub union-requires-clause-rowed : goal.union-requires-clause-rowed
 union-requires-clause-rowed c = c.requires

@@ -24,7 +24,8 @@ pub choice-requires : goal.choice-requires
 choice-requires c = rowed_parts c.args.self.now.desc.now c.args.tables.now c.args.self.now.rows.now c.args.node.now _ c.in-Choice.is c.requires
 
 pub times-requires : goal.times-requires
-times-requires c = rowed_part c.args.self.now.desc.now c.args.tables.now c.args.self.now.rows.now c.args.node.now _ c.in-Times.part c.in-Times.is refl c.requires
+times-requires c = rowed_part c.args.self.now.desc.now c.args.tables.now c.args.self.now.rows.now c.args.node.now _
+    c.in-Times.part c.in-Times.is refl c.requires
 
 pub of-requires : goal.of-requires
 of-requires c = rowed_part c.args.self.now.desc.now c.args.tables.now c.args.self.now.rows.now c.args.node.now _ c.in-Named.part c.in-Named.is refl c.requires
@@ -39,8 +40,10 @@ returns-in-Spare c =
 pub returns-in-Pad : goal.returns-in-Pad
 returns-in-Pad c =
     let d = c.args.self.now.desc.now in
-    gives_as d c.spare_row-in-Pad.result c.args.tables.now c.spare_row-in-Pad.new.tables (IsSpareKey c.reading-in-Pad.result Low false) c.args.node.now _ c.in-Pad.is
-    (λ o word mark. along d.reading c.reading-in-Pad.result Low false o word mark _ c.reading-in-Pad.ensures (pad_node d o word mark)) c.spare_row-in-Pad.ensures
+    gives_as d c.spare_row-in-Pad.result c.args.tables.now c.spare_row-in-Pad.new.tables
+    (IsSpareKey c.reading-in-Pad.result Low false) c.args.node.now _ c.in-Pad.is
+    (λ o word mark. along d.reading c.reading-in-Pad.result Low false o word mark _ c.reading-in-Pad.ensures
+    (pad_node d o word mark)) c.spare_row-in-Pad.ensures
 
 pub returns-in-Null : goal.returns-in-Null
 returns-in-Null c =
@@ -51,7 +54,8 @@ returns-in-Null c =
 pub returns-in-Rest : goal.returns-in-Rest
 returns-in-Rest c =
     let d = c.args.self.now.desc.now in
-    gives_as d c.empty_row-in-Rest.result c.args.tables.now c.empty_row-in-Rest.new.tables (λ o word mark. (word ≡ []) × (mark ≡ false)) c.args.node.now _ c.in-Rest.is
+    gives_as d c.empty_row-in-Rest.result c.args.tables.now c.empty_row-in-Rest.new.tables (λ o word mark. (word ≡ [])
+    × (mark ≡ false)) c.args.node.now _ c.in-Rest.is
     (λ o word mark. rest_node d o word mark) c.empty_row-in-Rest.ensures
 
 pub returns-in-Seq : goal.returns-in-Seq
@@ -63,19 +67,22 @@ returns-in-Seq c =
 pub returns-in-Many : goal.returns-in-Many
 returns-in-Many c =
     let d = c.args.self.now.desc.now in
-    gives_as d c.empty_row-in-Many.result c.args.tables.now c.empty_row-in-Many.new.tables (λ o word mark. (word ≡ []) × (mark ≡ false)) c.args.node.now _ c.in-Many.is
+    gives_as d c.empty_row-in-Many.result c.args.tables.now c.empty_row-in-Many.new.tables (λ o word mark. (word ≡ [])
+    × (mark ≡ false)) c.args.node.now _ c.in-Many.is
     (λ o word mark. many_node d o word mark c.in-Many.field-0) c.empty_row-in-Many.ensures
 
 pub returns-in-Trunc : goal.returns-in-Trunc
 returns-in-Trunc c =
     let d = c.args.self.now.desc.now in
-    gives_as d c.empty_row-in-Trunc.result c.args.tables.now c.empty_row-in-Trunc.new.tables (λ o word mark. (word ≡ []) × (mark ≡ false)) c.args.node.now _ c.in-Trunc.is
+    gives_as d c.empty_row-in-Trunc.result c.args.tables.now c.empty_row-in-Trunc.new.tables
+    (λ o word mark. (word ≡ []) × (mark ≡ false)) c.args.node.now _ c.in-Trunc.is
     (λ o word mark. trunc_node d o word mark c.in-Trunc.field-0) c.empty_row-in-Trunc.ensures
 
 pub returns-in-Window : goal.returns-in-Window
 returns-in-Window c =
     let d = c.args.self.now.desc.now in
-    gives_as d c.empty_row-in-Window.result c.args.tables.now c.empty_row-in-Window.new.tables (λ o word mark. (word ≡ []) × (mark ≡ false)) c.args.node.now _ c.in-Window.is
+    gives_as d c.empty_row-in-Window.result c.args.tables.now c.empty_row-in-Window.new.tables
+    (λ o word mark. (word ≡ []) × (mark ≡ false)) c.args.node.now _ c.in-Window.is
     (λ o word mark. window_node d o word mark c.in-Window.unit c.in-Window.count c.in-Window.part) c.empty_row-in-Window.ensures
 
 pub returns-in-Named : goal.returns-in-Named
@@ -84,4 +91,9 @@ returns-in-Named c =
     let tables = c.args.tables.now in
     let P : Node → Type 0 = λ n. Makes tables tables c.of.result (NodeKeys d 12 n) in
     subst P (sym c.in-Named.is)
-    (record { more = more_none tables; has = row_as tables c.of.result (InKeys d 12 c.in-Named.part) (NodeKeys d 12 (Named c.in-Named.label c.in-Named.part)) c.of.ensures (λ o word mark low is. named_node d o word mark c.in-Named.label c.in-Named.part) })
+    (record {
+      more = more_none tables;
+      has = row_as tables c.of.result (InKeys d 12 c.in-Named.part)
+          (NodeKeys d 12 (Named c.in-Named.label c.in-Named.part)) c.of.ensures
+          (λ o word mark low is. named_node d o word mark c.in-Named.label c.in-Named.part);
+    })

@@ -30,7 +30,8 @@ loop-at-preserved c =
     let new = c.row_after.new.tables in
     let P : List ℕ → Type 0 = λ parts. Makes start new c.in_ok-row-2.row (PartsKeys d 12 parts) in
     subst P (sym (last_more c.args.parts.now c.loop-at.at c.get.result c.loop-at-test.true c.get.ensures))
-    (parts_next d start mid new c.of-first.result c.loop-at.row c.in_ok-row-2.row c.get.result (drop c.loop-at.at c.args.parts.now) c.of-first.ensures c.loop-at.invariant c.in_ok-row-2.ensures)
+    (parts_next d start mid new c.of-first.result c.loop-at.row c.in_ok-row-2.row c.get.result
+    (drop c.loop-at.at c.args.parts.now) c.of-first.ensures c.loop-at.invariant c.in_ok-row-2.ensures)
 
 pub returns : goal.returns
 returns c =

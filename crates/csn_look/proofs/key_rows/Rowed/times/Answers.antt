@@ -16,7 +16,8 @@ returns-in-Fixed c =
     let d = c.args.self.now.desc.now in
     let n = c.in-Fixed.n in
     let i = c.args.part in
-    gives_as d c.repeated_row.result c.args.tables.now c.repeated_row.new.tables (TimesKeys d 12 n i) (Times c.args.count i) (Times (Fixed n) i) (ap (λ (k : Count). Times k i) c.in-Fixed.is)
+    gives_as d c.repeated_row.result c.args.tables.now c.repeated_row.new.tables (TimesKeys d 12 n i)
+    (Times c.args.count i) (Times (Fixed n) i) (ap (λ (k : Count). Times k i) c.in-Fixed.is)
     (λ o word mark. times_node d o word mark n i)
     (c.repeated_row.ensures d i c.of-once.ensures)
 
@@ -26,6 +27,7 @@ returns-in-Counted c =
     let i = c.args.part in
     let empty : ℕ → List ℕ → Bool → Type 0 = λ o word mark. (word ≡ []) × (mark ≡ false) in
     let count = Counted c.in-Counted.m c.in-Counted.field c.in-Counted.c in
-    gives_as d c.empty_row.result c.args.tables.now c.empty_row.new.tables empty (Times c.args.count i) (Times count i) (ap (λ (k : Count). Times k i) c.in-Counted.is)
+    gives_as d c.empty_row.result c.args.tables.now c.empty_row.new.tables empty (Times c.args.count i)
+    (Times count i) (ap (λ (k : Count). Times k i) c.in-Counted.is)
     (λ o word mark. counted_times d o word mark c.in-Counted.m c.in-Counted.field c.in-Counted.c i)
     c.empty_row.ensures

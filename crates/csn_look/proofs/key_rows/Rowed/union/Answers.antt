@@ -17,7 +17,8 @@ loop-at-preserved c =
     c.in_ok-add_all.ensures.added
 
 pub returns : goal.returns
-returns c = choice_all c.args.self.now.desc.now c.args.parts.now c.args.octet c.loop-at.table c.loop-at.at (omega (arith, c.len-at-end.ensures.len)) c.loop-at.invariant
+returns c = choice_all c.args.self.now.desc.now c.args.parts.now c.args.octet c.loop-at.table c.loop-at.at
+    (omega (arith, c.len-at-end.ensures.len)) c.loop-at.invariant
 
 pub of-row-requires : goal.of-row-requires
 of-row-requires c = c.requires.rowed c.loop-at.at c.get.result c.get.ensures

@@ -14,5 +14,6 @@ invariant_of-self-2 c =
 
 pub returns-clause-added : goal.returns-clause-added
 returns-clause-added c =
-    keys_written _ _ _ _ _ _ c.in_ok-unpack.ensures.open (c.unpack.ensures.same ∙ c.self.view_is) c.unpack.new.blocks.ok.0 c.deref_mut.ensures.value c.join_marks.auto.marks
+    keys_written _ _ _ _ _ _ c.in_ok-unpack.ensures.open (c.unpack.ensures.same ∙ c.self.view_is)
+    c.unpack.new.blocks.ok.0 c.deref_mut.ensures.value c.join_marks.auto.marks
     (marks_extend _ c.args.other.now _ (subst (λ (m : List ℕ). IsKeyTable m) c.other.view_is c.other.invariant.0) c.join_marks.auto.marks c.join_marks.ensures)

@@ -13,5 +13,6 @@ invariant_of-self-2 c =
 
 pub returns-clause-added : goal.returns-clause-added
 returns-clause-added c =
-    keys_written _ _ _ _ _ _ c.in_ok-unpack.ensures.open (c.unpack.ensures.same ∙ c.self.view_is) c.unpack.new.blocks.ok.0 c.deref_mut.ensures.value c.add_words.auto.marks
+    keys_written _ _ _ _ _ _ c.in_ok-unpack.ensures.open (c.unpack.ensures.same ∙ c.self.view_is)
+    c.unpack.new.blocks.ok.0 c.deref_mut.ensures.value c.add_words.auto.marks
     (c.add_words.ensures c.args.size c.words_of.ensures.value c.requires)

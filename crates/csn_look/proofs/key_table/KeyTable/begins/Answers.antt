@@ -17,14 +17,22 @@ pub begins_with_key-requires-clause-size : goal.begins_with_key-requires-clause-
 begins_with_key-requires-clause-size c = (subst (λ (l : List ℕ). IsKeyTable l) c.self.view_is c.self.invariant.0).size
 
 pub returns-then-begins_with_key : goal.returns-then-begins_with_key
-returns-then-begins_with_key c = (c.begins_with_key.ensures c.args.held.now c.place-place.ensures.word (sym c.place-place.ensures.value)).0 c.if-begins_with_key.true
+returns-then-begins_with_key c =
+    (c.begins_with_key.ensures c.args.held.now c.place-place.ensures.word (sym c.place-place.ensures.value)).0
+    c.if-begins_with_key.true
 
 pub returns-then-is_marked : goal.returns-then-is_marked
 returns-then-is_marked c =
-    let looks = unbegun c.args.self.now c.args.held.now c.place-place.result c.begins_with_key.result c.is_marked.result (subst (λ (l : List ℕ). IsKeyTable l) c.self.view_is c.self.invariant.0) c.place-place.ensures.word c.place-place.ensures.value c.begins_with_key.ensures c.if-begins_with_key.false c.is_marked.ensures in
+    let looks = unbegun c.args.self.now c.args.held.now c.place-place.result c.begins_with_key.result
+    c.is_marked.result (subst (λ (l : List ℕ). IsKeyTable l) c.self.view_is c.self.invariant.0)
+    c.place-place.ensures.word c.place-place.ensures.value c.begins_with_key.ensures c.if-begins_with_key.false
+    c.is_marked.ensures in
     (looks.0, looks.1.0 c.if-is_marked.true)
 
 pub returns-else-is_marked : goal.returns-else-is_marked
 returns-else-is_marked c =
-    let looks = unbegun c.args.self.now c.args.held.now c.place-place.result c.begins_with_key.result c.is_marked.result (subst (λ (l : List ℕ). IsKeyTable l) c.self.view_is c.self.invariant.0) c.place-place.ensures.word c.place-place.ensures.value c.begins_with_key.ensures c.if-begins_with_key.false c.is_marked.ensures in
+    let looks = unbegun c.args.self.now c.args.held.now c.place-place.result c.begins_with_key.result
+    c.is_marked.result (subst (λ (l : List ℕ). IsKeyTable l) c.self.view_is c.self.invariant.0)
+    c.place-place.ensures.word c.place-place.ensures.value c.begins_with_key.ensures c.if-begins_with_key.false
+    c.is_marked.ensures in
     (looks.0, told_not looks.1 c.if-is_marked.false)

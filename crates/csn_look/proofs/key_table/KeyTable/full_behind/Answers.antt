@@ -14,7 +14,8 @@ pub returns-in_default-clause-none : goal.returns-in_default-clause-none
 returns-in_default-clause-none c = λ bits is.
     let more = bits - length c.args.word.now in
     let size : bits ≡ length c.args.word.now + more = omega (arith, is.more) in
-    c.in_default.ensures.none c.args.word.now c.place.ensures.word (sym c.place.ensures.value) (sym c.len-len.ensures.count) more (omega (arith, size, is.short, c.len-len.ensures.count))
+    c.in_default.ensures.none c.args.word.now c.place.ensures.word (sym c.place.ensures.value)
+    (sym c.len-len.ensures.count) more (omega (arith, size, is.short, c.len-len.ensures.count))
     (place_of_full c.args.self.now c.args.word.now c.place.result (sym c.place.ensures.value) more bits size is)
 
 pub returns-clause-full : goal.returns-clause-full
@@ -22,4 +23,5 @@ returns-clause-full c =
     let more = c.in-Some.more in
     let short : length c.args.word.now + more ≤ 12 = omega (arith, c.in-Some.ensures.room, c.len-len.ensures.count) in
     let P : ℕ → Type 0 = λ n. IsFull c.args.self.now c.args.word.now (n + more) in
-    subst P (sym c.len-len.ensures.count) (full_of_place c.args.self.now c.args.word.now c.place.result (sym c.place.ensures.value) more c.place.ensures.word short c.in-Some.ensures.full)
+    subst P (sym c.len-len.ensures.count) (full_of_place c.args.self.now c.args.word.now c.place.result
+    (sym c.place.ensures.value) more c.place.ensures.word short c.in-Some.ensures.full)

@@ -24,5 +24,6 @@ pub returns : goal.returns
 returns c = λ word whole is.
     let are = c.in_ok-vec.ensures.items_if_clones_equal (λ y e. e) in
     let marks = c.in_ok-vec.field-0.items in
-    let e = ap (λ m. is_marked m (key_mark (place_of word) whole)) (no_index c.new.result.items marks c.new.ensures.items) ∙ none marks are (key_mark (place_of word) whole) in
+    let e = ap (λ m. is_marked m (key_mark (place_of word) whole))
+    (no_index c.new.result.items marks c.new.ensures.items) ∙ none marks are (key_mark (place_of word) whole) in
     (λ key. absurd (let f = sym e ∙ key in cc), λ no. absurd no)

@@ -22,7 +22,15 @@ returns-then-len-gt0 c =
     let many = places c.self.inside.index.items c.self.inside.blocks.items some c.self.invariant.0.size in
     let there : c.args.at / 4 < length c.self.inside.index.items = omega (arith, many, c.requires) in
     let block = get_or_read c.self.inside.index.items (c.args.at / 4) c.index.result.now there c.index.ensures 0 in
-    let inside : 4 * c.index.result.now + c.args.at % 4 < length c.self.inside.blocks.items = omega (arith, block, block_within c.self.inside.index.items c.self.inside.blocks.items (c.args.at / 4) c.self.invariant.1 there) in
-    let word = get_or_read c.self.inside.blocks.items (4 * c.index.result.now + c.args.at % 4) c.index-then-len-gt0.result.now inside c.index-then-len-gt0.ensures 0 in
-    word_read c.self.inside.index.items c.self.inside.blocks.items c.args.at c.index.result.now c.index-then-len-gt0.result.now some (omega (arith, many, c.requires)) block word
+    let inside : 4 * c.index.result.now + c.args.at % 4 < length c.self.inside.blocks.items =
+    omega (
+      arith,
+      block,
+      block_within c.self.inside.index.items c.self.inside.blocks.items (c.args.at / 4)
+          c.self.invariant.1 there,
+    ) in
+    let word = get_or_read c.self.inside.blocks.items (4 * c.index.result.now + c.args.at % 4)
+    c.index-then-len-gt0.result.now inside c.index-then-len-gt0.ensures 0 in
+    word_read c.self.inside.index.items c.self.inside.blocks.items c.args.at c.index.result.now
+    c.index-then-len-gt0.result.now some (omega (arith, many, c.requires)) block word
     ∙ ap (λ m. get_or m c.args.at 0) c.self.view_is

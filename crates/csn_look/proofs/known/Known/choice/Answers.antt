@@ -12,7 +12,8 @@ loop-at-init c =
 pub loop-at-preserved : goal.loop-at-preserved
 loop-at-preserved c =
     let or = c.or-sets.ensures in
-    more_choice c.args.self.now.desc.now c.args.parts.now c.loop-at.at c.get.result c.loop-at.sets c.of.result c.or-sets.result c.get.ensures c.loop-at.invariant c.of.ensures
+    more_choice c.args.self.now.desc.now c.args.parts.now c.loop-at.at c.get.result c.loop-at.sets c.of.result
+    c.or-sets.result c.get.ensures c.loop-at.invariant c.of.ensures
     (record { nullable = or.nullable; whole_empty = or.whole_empty; cut_empty = or.cut_empty; lengths = or.lengths; zero = or.zero; one = or.one })
 
 pub returns : goal.returns

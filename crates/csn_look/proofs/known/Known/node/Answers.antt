@@ -28,8 +28,18 @@ pub returns-in-Null : goal.returns-in-Null
 returns-in-Null c =
     let none = c.no_bits.ensures in
     of_kind c.args.self.now.desc.now c.args.node.now _ c.no_bits.result c.in-Null.is
-    (null_sets c.args.self.now.desc.now c.no_bits.result (record { nullable = none.nullable; whole_empty = none.whole_empty; cut_empty = none.cut_empty; lengths = none.lengths; zero = none.zero; one = none.one }))
+    (null_sets c.args.self.now.desc.now c.no_bits.result
+    (record {
+      nullable = none.nullable;
+      whole_empty = none.whole_empty;
+      cut_empty = none.cut_empty;
+      lengths =
+          none.lengths;
+      zero = none.zero;
+      one = none.one;
+    }))
 
 pub returns-in-Named : goal.returns-in-Named
 returns-in-Named c =
-    of_kind c.args.self.now.desc.now c.args.node.now _ c.of.result c.in-Named.is (named_sets c.args.self.now.desc.now _ c.in-Named.part c.of.result c.of.ensures)
+    of_kind c.args.self.now.desc.now c.args.node.now _ c.of.result c.in-Named.is
+    (named_sets c.args.self.now.desc.now _ c.in-Named.part c.of.result c.of.ensures)

@@ -10,5 +10,6 @@ returns-in-Fixed c =
 
 pub returns-in-Counted : goal.returns-in-Counted
 returns-in-Counted c =
-    counted_times c.args.self.now.desc.now c.args.count c.in-Counted.m c.in-Counted.field c.in-Counted.c c.args.part c.of-once.result _ c.in-Counted.is c.of-once.ensures
+    counted_times c.args.self.now.desc.now c.args.count c.in-Counted.m c.in-Counted.field c.in-Counted.c c.args.part
+    c.of-once.result _ c.in-Counted.is c.of-once.ensures
     (either same_fact (zero_test c.in-Counted.c)) refl refl c.repeated.ensures refl refl

@@ -11,7 +11,15 @@ loop-at-init c =
     let none = c.no_bits.ensures in
     let sets : NodeSets = record c.no_bits.result { whole_empty = false; cut_empty = true } in
     subst (λ (ps : List ℕ). LeadSetsAre d ps sets) (sym (last_none c.args.parts.now c.len-at.result c.len-at.ensures.len))
-    (no_lead d c.no_bits.result (record { nullable = none.nullable; whole_empty = none.whole_empty; cut_empty = none.cut_empty; lengths = none.lengths; zero = none.zero; one = none.one }))
+    (no_lead d c.no_bits.result (record {
+      nullable = none.nullable;
+      whole_empty = none.whole_empty;
+      cut_empty =
+          none.cut_empty;
+      lengths = none.lengths;
+      zero = none.zero;
+      one = none.one;
+    }))
 
 pub loop-at-preserved : goal.loop-at-preserved
 loop-at-preserved c =
@@ -20,7 +28,15 @@ loop-at-preserved c =
     let sets : NodeSets = record c.then-all.result { nullable = true; whole_empty = false; cut_empty = true; lengths = c.with.result } in
     subst (λ (ps : List ℕ). LeadSetsAre d ps sets) (sym (last_more c.args.parts.now c.loop-at.at c.get.result c.loop-at-test.true c.get.ensures))
     (more_lead d c.get.result (drop c.loop-at.at c.args.parts.now) c.of.result c.loop-at.sets c.then-all.result c.with.result c.of.ensures c.loop-at.invariant
-    (record { nullable = then.nullable; whole_empty = then.whole_empty; cut_empty = then.cut_empty; lengths = then.lengths; zero = then.zero; one = then.one }) c.with.ensures)
+    (record {
+      nullable = then.nullable;
+      whole_empty = then.whole_empty;
+      cut_empty = then.cut_empty;
+      lengths =
+          then.lengths;
+      zero = then.zero;
+      one = then.one;
+    }) c.with.ensures)
 
 pub returns : goal.returns
 returns c =

@@ -26,4 +26,6 @@ returns c =
     ∙ ap (λ (s : SignsV). if o then with_sign s One else s) zero_is in
     λ d look.
     subst (λ (s : SignsV). SignsAre s (InFirst d (FollowHas c.args.follow.now) c.args.node c.args.octet)) (sym is)
-    (first_is d c.args.node c.args.octet sets c.args.follow.now c.at.result (known_sets d c.args.self.now.sets c.args.node c.of-sets.result look c.of-sets.ensures) c.requires.octet c.at.ensures)
+    (first_is d c.args.node c.args.octet sets c.args.follow.now c.at.result
+    (known_sets d c.args.self.now.sets c.args.node c.of-sets.result look c.of-sets.ensures)
+    c.requires.octet c.at.ensures)

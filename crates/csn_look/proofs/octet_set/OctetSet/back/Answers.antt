@@ -11,6 +11,8 @@ pub loop-octet-preserved : goal.loop-octet-preserved
 loop-octet-preserved c =
     let P : ℕ → Type 0 = λ o. Has c.args.self ((8 - o) % 8) in
     elim c.if-has.branch [
-      | then-has w ↦ below_with P c.loop-octet.octet c.loop-octet.back c.if-has.back c.loop-octet.invariant (sym c.has.ensures ∙ w.if-has.true) (w.back-is ∙ w.with-back.ensures)
-      | else-has w ↦ below_without P c.loop-octet.octet c.loop-octet.back c.if-has.back c.loop-octet.invariant (λ h. cc (h, c.has.ensures, w.if-has.false)) w.back-is
+      | then-has w ↦ below_with P c.loop-octet.octet c.loop-octet.back c.if-has.back c.loop-octet.invariant
+          (sym c.has.ensures ∙ w.if-has.true) (w.back-is ∙ w.with-back.ensures)
+      | else-has w ↦ below_without P c.loop-octet.octet c.loop-octet.back c.if-has.back c.loop-octet.invariant
+          (λ h. cc (h, c.has.ensures, w.if-has.false)) w.back-is
     ]

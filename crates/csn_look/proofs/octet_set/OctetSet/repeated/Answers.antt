@@ -19,4 +19,5 @@ loop-sums-smaller c =
 
 pub loop-sums-preserved : goal.loop-sums-preserved
 loop-sums-preserved c =
-    closing_more c.args.self c.loop-sums.sums c.plus.result (marked c.more.inside.marks) c.loop-sums.invariant c.plus.ensures (c.more.view_is ∙ c.union-more.ensures)
+    closing_more c.args.self c.loop-sums.sums c.plus.result (marked c.more.inside.marks)
+    c.loop-sums.invariant c.plus.ensures (c.more.view_is ∙ c.union-more.ensures)

@@ -21,10 +21,12 @@ loop-left-preserved c =
     elim c.if-left-eq1.branch [
       | then-left-eq1 w ↦
           subst P (sym w.sums-is)
-          (fold_odd c.args.self c.loop-left.sums c.loop-left.each w.plus-sums.result c.plus-each.result c.args.n c.loop-left.left c.loop-left.invariant w.if-left-eq1.true w.plus-sums.ensures c.plus-each.ensures)
+          (fold_odd c.args.self c.loop-left.sums c.loop-left.each w.plus-sums.result c.plus-each.result c.args.n
+          c.loop-left.left c.loop-left.invariant w.if-left-eq1.true w.plus-sums.ensures c.plus-each.ensures)
       | else-left-eq1 w ↦
           subst P (sym w.sums-is)
-          (fold_even c.args.self c.loop-left.sums c.loop-left.each c.plus-each.result c.args.n c.loop-left.left c.loop-left.invariant w.if-left-eq1.false c.plus-each.ensures)
+          (fold_even c.args.self c.loop-left.sums c.loop-left.each c.plus-each.result c.args.n c.loop-left.left
+          c.loop-left.invariant w.if-left-eq1.false c.plus-each.ensures)
     ]
 
 pub returns : goal.returns

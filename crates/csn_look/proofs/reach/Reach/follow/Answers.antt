@@ -7,5 +7,7 @@ use Rattle.csn_look.proofs.reach.Reach.follow.Goals as goal
 
 pub returns : goal.returns
 returns c = λ d table.
-    let at = read_through c.self.inside.follow.items c.args.self.now.follow c.args.node c.index.result.now (ap (λ (r : ReachV). r.follow) c.self.view_is) c.requires c.index.ensures in
-    follow_says c.index.result.now c.signs_of.result (InFollow d c.args.node) (known_follow d c.args.self.now.follow c.args.node c.index.result.now table at) c.signs_of.ensures
+    let at = read_through c.self.inside.follow.items c.args.self.now.follow c.args.node c.index.result.now
+    (ap (λ (r : ReachV). r.follow) c.self.view_is) c.requires c.index.ensures in
+    follow_says c.index.result.now c.signs_of.result (InFollow d c.args.node)
+    (known_follow d c.args.self.now.follow c.args.node c.index.result.now table at) c.signs_of.ensures

@@ -8,4 +8,5 @@ pub handed_down-requires-clause-root : goal.handed_down-requires-clause-root
 handed_down-requires-clause-root c = λ is. root_right c.args.desc.now c.with.result is (c.with.ensures ∙ ap (λ s. set.insert s 0) c.empty.ensures)
 
 pub handed_down-requires-2-clause-root : goal.handed_down-requires-2-clause-root
-handed_down-requires-2-clause-root c = λ is. root_follow c.args.desc.now c.end.result is (record { zero = c.end.ensures.zero; one = c.end.ensures.one; end = c.end.ensures.end })
+handed_down-requires-2-clause-root c = λ is. root_follow c.args.desc.now c.end.result is
+    (record { zero = c.end.ensures.zero; one = c.end.ensures.one; end = c.end.ensures.end })

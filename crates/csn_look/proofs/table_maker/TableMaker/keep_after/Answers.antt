@@ -21,13 +21,19 @@ kept old new tables first at rests one none made read all empty adds more h =
 pub remember-requires : goal.remember-requires
 remember-requires c =
     product_of c.args.self.now c.keep.new.self c.args.first c.args.rests.now c.in_ok-at.at c.keep.ensures.more c.requires.first c.requires.rests
-    (kept c.args.self.now c.keep.new.self c.as_slice.result.now c.args.first c.in_ok-at.at c.args.rests.now c.get.result.now c.in_ok-table.table c.add_after.new.self c.get.ensures (c.as_slice.ensures ∙ c.self.view_is) c.in_ok-table.ensures c.in_ok-add_after.ensures.added c.keep.ensures.more c.in_ok-at.ensures.kept)
+    (kept c.args.self.now c.keep.new.self c.as_slice.result.now c.args.first c.in_ok-at.at c.args.rests.now
+    c.get.result.now c.in_ok-table.table c.add_after.new.self c.get.ensures (c.as_slice.ensures ∙ c.self.view_is)
+    c.in_ok-table.ensures c.in_ok-add_after.ensures.added c.keep.ensures.more c.in_ok-at.ensures.kept)
 
 pub returns-clause-kept : goal.returns-clause-kept
 returns-clause-kept c =
-    let P : List (List ℕ) → Type 0 = λ l. HasTable l c.in_ok-at.at (AfterKeys (table_of c.args.self.now c.args.first) (λ size. table_of c.args.self.now (get_or c.args.rests.now (size % 8) 0))) in
+    let P : List (List ℕ)
+    → Type 0 = λ l. HasTable l c.in_ok-at.at (AfterKeys (table_of c.args.self.now c.args.first)
+    (λ size. table_of c.args.self.now (get_or c.args.rests.now (size % 8) 0))) in
     subst P (sym c.remember.ensures)
-    (kept c.args.self.now c.keep.new.self c.as_slice.result.now c.args.first c.in_ok-at.at c.args.rests.now c.get.result.now c.in_ok-table.table c.add_after.new.self c.get.ensures (c.as_slice.ensures ∙ c.self.view_is) c.in_ok-table.ensures c.in_ok-add_after.ensures.added c.keep.ensures.more c.in_ok-at.ensures.kept)
+    (kept c.args.self.now c.keep.new.self c.as_slice.result.now c.args.first c.in_ok-at.at c.args.rests.now
+    c.get.result.now c.in_ok-table.table c.add_after.new.self c.get.ensures (c.as_slice.ensures ∙ c.self.view_is)
+    c.in_ok-table.ensures c.in_ok-add_after.ensures.added c.keep.ensures.more c.in_ok-at.ensures.kept)
 
 pub returns-in-Some-clause-kept : goal.returns-in-Some-clause-kept
 returns-in-Some-clause-kept c = c.in-Some.ensures.table

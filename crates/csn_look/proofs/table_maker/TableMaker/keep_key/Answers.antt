@@ -10,26 +10,35 @@ use Rattle.csn_look.proofs.table_maker.TableMaker.keep_key.Goals as goal
 pub returns-in-Some-clause-kept : goal.returns-in-Some-clause-kept
 returns-in-Some-clause-kept c =
     let P : List ℕ → Bool → Type 0 = λ key mark. (key ≡ c.args.word.now) × (mark ≡ c.args.whole) in
-    let is : c.key_mark-leaf.result ≡ key_mark (place_of c.args.word.now) c.args.whole = c.key_mark-leaf.ensures ∙ ap (λ p. key_mark p c.args.whole) c.place.ensures.value in
+    let is : c.key_mark-leaf.result ≡ key_mark (place_of c.args.word.now) c.args.whole = c.key_mark-leaf.ensures
+    ∙ ap (λ p. key_mark p c.args.whole) c.place.ensures.value in
     let Q : ℕ → Type 0 = λ leaf. HasTable c.args.self.now c.in-Some.at (LeafKeys leaf) in
-    has_leaf c.args.self.now c.in-Some.at (LeafKeys (key_mark (place_of c.args.word.now) c.args.whole)) P (back_and_forth P (LeafKeys (key_mark (place_of c.args.word.now) c.args.whole)) (leaf_is_key c.args.word.now c.args.whole c.place.ensures.word)) (subst Q is c.in-Some.ensures)
+    has_leaf c.args.self.now c.in-Some.at (LeafKeys (key_mark (place_of c.args.word.now) c.args.whole)) P
+    (back_and_forth P (LeafKeys (key_mark (place_of c.args.word.now) c.args.whole))
+    (leaf_is_key c.args.word.now c.args.whole c.place.ensures.word)) (subst Q is c.in-Some.ensures)
 
 pub keep_leaf-requires : goal.keep_leaf-requires
 keep_leaf-requires c =
     let P : List ℕ → Bool → Type 0 = λ key mark. (key ≡ c.args.word.now) × (mark ≡ c.args.whole) in
-    let is : c.key_mark-leaf.result ≡ key_mark (place_of c.args.word.now) c.args.whole = c.key_mark-leaf.ensures ∙ ap (λ p. key_mark p c.args.whole) c.place.ensures.value in
+    let is : c.key_mark-leaf.result ≡ key_mark (place_of c.args.word.now) c.args.whole = c.key_mark-leaf.ensures
+    ∙ ap (λ p. key_mark p c.args.whole) c.place.ensures.value in
     let Q : ℕ → Type 0 = λ leaf. KeysAre c.add.new.self (LeafKeys leaf) in
-    subst Q (sym is) (keys_as c.add.new.self P (LeafKeys (key_mark (place_of c.args.word.now) c.args.whole)) (keys_first c.in_ok-table.table c.add.new.self P c.in_ok-table.ensures c.in_ok-add.ensures.added) (leaf_is_key c.args.word.now c.args.whole c.place.ensures.word))
+    subst Q (sym is) (keys_as c.add.new.self P (LeafKeys (key_mark (place_of c.args.word.now) c.args.whole))
+    (keys_first c.in_ok-table.table c.add.new.self P c.in_ok-table.ensures c.in_ok-add.ensures.added)
+    (leaf_is_key c.args.word.now c.args.whole c.place.ensures.word))
 
 pub returns-clause-kept : goal.returns-clause-kept
 returns-clause-kept c =
     let P : List ℕ → Bool → Type 0 = λ key mark. (key ≡ c.args.word.now) × (mark ≡ c.args.whole) in
-    let is : c.key_mark-leaf.result ≡ key_mark (place_of c.args.word.now) c.args.whole = c.key_mark-leaf.ensures ∙ ap (λ p. key_mark p c.args.whole) c.place.ensures.value in
+    let is : c.key_mark-leaf.result ≡ key_mark (place_of c.args.word.now) c.args.whole = c.key_mark-leaf.ensures
+    ∙ ap (λ p. key_mark p c.args.whole) c.place.ensures.value in
     let new = c.keep_leaf.new.self in
     IfOk-weaker c.keep_leaf.result (λ (at : ℕ). HasTable new at (LeafKeys c.key_mark-leaf.result)) (λ (at : ℕ). HasTable new at P)
     (λ at has.
     let Q : ℕ → Type 0 = λ leaf. HasTable new at (LeafKeys leaf) in
-    has_leaf new at (LeafKeys (key_mark (place_of c.args.word.now) c.args.whole)) P (back_and_forth P (LeafKeys (key_mark (place_of c.args.word.now) c.args.whole)) (leaf_is_key c.args.word.now c.args.whole c.place.ensures.word)) (subst Q is has))
+    has_leaf new at (LeafKeys (key_mark (place_of c.args.word.now) c.args.whole)) P
+    (back_and_forth P (LeafKeys (key_mark (place_of c.args.word.now) c.args.whole))
+    (leaf_is_key c.args.word.now c.args.whole c.place.ensures.word)) (subst Q is has))
     c.keep_leaf.ensures.kept
 
 pub returns-in-Some-clause-more : goal.returns-in-Some-clause-more

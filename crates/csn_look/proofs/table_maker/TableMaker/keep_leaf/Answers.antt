@@ -7,7 +7,8 @@ use Rattle.csn_look.proofs.Tables.ProductsMade.{leaf_kept, leaves_same}
 use Rattle.csn_look.proofs.table_maker.TableMaker.keep_leaf.Goals as goal
 
 -- the table that was kept
-kept : (tables : List (List ℕ)) (at leaf : ℕ) (table : List ℕ) → KeysAre table (LeafKeys leaf) → (at < length tables) × (slice_index_or tables at [] ≡ table) → HasTable tables at (LeafKeys leaf)
+kept : (tables : List (List ℕ)) (at leaf : ℕ) (table : List ℕ) → KeysAre table (LeafKeys leaf) → (at < length tables)
+    × (slice_index_or tables at [] ≡ table) → HasTable tables at (LeafKeys leaf)
 kept tables at leaf table are h =
     let P : List ℕ → Type 0 = λ m. KeysAre m (LeafKeys leaf) in
     record { within = h.0; keys = subst P (sym h.1) are }
@@ -25,7 +26,8 @@ invariant_of-self-2 c =
     let P : List (List ℕ) → Type 0 = λ tables. HasTable tables c.in_ok-at.at (LeafKeys c.args.leaf) in
     record {
       right_products = c.self.invariant.right_products;
-      right_leaves = leaf_kept c.self.inside.tables c.self.inside.leaves c.insert.new.self c.args.leaf c.in_ok-at.at c.in_ok-insert.ensures.updates (subst P (sym c.self.view_is) here) c.self.invariant.right_leaves;
+      right_leaves = leaf_kept c.self.inside.tables c.self.inside.leaves c.insert.new.self c.args.leaf c.in_ok-at.at
+          c.in_ok-insert.ensures.updates (subst P (sym c.self.view_is) here) c.self.invariant.right_leaves;
     }
 
 pub returns-clause-kept : goal.returns-clause-kept

@@ -25,7 +25,8 @@ module _ (g : Over) (c : After-outcome-ended g) where
       let W : BlockV → Type 0 = λ w. EndsAs w c.outcome-ended.result after.kept.text in
       subst W c.self.view_is
       (subst (λ r. EndsAs (stands old.judge old.track old.answer front) r after.kept.text) (sym c.outcome-ended.ensures)
-      (ends_as old.judge old.track after front old.answer c.next_block_to-judged.result c.is_refused.result c.strings_are_followed.ensures c.texts_are_joined.ensures c.meanings_are_bits.ensures.meant
+      (ends_as old.judge old.track after front old.answer c.next_block_to-judged.result c.is_refused.result
+      c.strings_are_followed.ensures c.texts_are_joined.ensures c.meanings_are_bits.ensures.meant
       is.description is.one_tree is.openings is.answer_is is.few c.is_refused.ensures c.next_block_to-judged.ensures.ends))
 
 pub invariant_of-self : goal.invariant_of-self

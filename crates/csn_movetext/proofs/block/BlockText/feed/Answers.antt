@@ -20,7 +20,8 @@ module _ (g : Over) (c : After-is_refused g) where
   more = take c.args.bits (bits_of_octets c.args.piece.now)
 
   before : Begun c.self.inside.answer c.self.inside.judge
-  before = begun c.self.inside.answer c.self.inside.judge c.is_going.result c.is_going.ensures c.if-not-is_going.false c.self.invariant.answer_is c.self.invariant.judges
+  before = begun c.self.inside.answer c.self.inside.judge c.is_going.result c.is_going.ensures c.if-not-is_going.false
+      c.self.invariant.answer_is c.self.invariant.judges
 
   stays : Stays c.self.inside.track c.feed_to-verdict.new.track
   stays =
@@ -55,7 +56,8 @@ invariant_of-self g c =
       answer_is = subst N (sym c.of-self-inside.ensures) (answer_is c.feed_to-verdict.result c.is_refused.result now.self judged.refused);
       judges =
           subst M (sym c.of-self-inside.ensures)
-          (feed_judges c.self.inside.judge now.self c.self.inside.track now.track (more g fed) c.feed_to-verdict.result c.is_refused.result old.judges judged.judges);
+          (feed_judges c.self.inside.judge now.self c.self.inside.track now.track (more g fed)
+          c.feed_to-verdict.result c.is_refused.result old.judges judged.judges);
       few = omega (arith, judged.seen old.none, c.requires.few, seen_is);
       openings = subst O (sym judged.desc) (subst T (sym kept.same) was.openings);
       started = longer c.self.inside.start c.self.inside.track.kept.text now.track.kept.text was.started kept.more;
@@ -74,7 +76,8 @@ returns-clause-writes g c =
     subst Q (ap (λ a. stands old.judge old.track a front) (sym (before g fed).going) ∙ c.self.view_is)
     (subst F (sym (same g fed))
     (subst P (sym c.of-self-inside.ensures)
-    (feeds old.judge now.self old.track now.track front (more g fed) c.feed_to-verdict.result c.is_refused.result c.feed_to-verdict.ensures.desc (stays g fed).same
+    (feeds old.judge now.self old.track now.track front (more g fed) c.feed_to-verdict.result c.is_refused.result
+    c.feed_to-verdict.ensures.desc (stays g fed).same
     (before g fed).none c.feed_to-verdict.ensures.judges)))
 
 pub returns-clause-before : goal.returns-clause-before

@@ -14,7 +14,8 @@ returns-clause-text g c =
       | in-Ok w ↦
           subst (λ r. R r c.match-end.out.items) (sym w.ended-is)
           (subst (λ o. R w.add_to-ended.result o.items) (sym w.out-is)
-          (text_added c.args.self.now c.end.new.self.track.kept.text c.end.new.self.before c.args.out.now.items w.add_to-ended.new.out.items w.add_to-ended.result
+          (text_added c.args.self.now c.end.new.self.track.kept.text c.end.new.self.before c.args.out.now.items
+          w.add_to-ended.new.out.items w.add_to-ended.result
           c.end.ensures.before w.in-Ok.ensures.text w.add_to-ended.ensures.added))
       | in-Err w ↦ subst (λ r. R r c.match-end.out.items) (sym w.ended-is) tt
     ]
@@ -25,7 +26,8 @@ returns-clause-why g c =
     elim c.match-end.branch [
       | in-Ok w ↦
           subst R (sym w.ended-is)
-          (text_wanting c.strings_are_followed.ensures c.args.self.now c.end.new.self.track.kept.text w.add_to-ended.result w.in-Ok.ensures.text w.add_to-ended.ensures.why)
+          (text_wanting c.strings_are_followed.ensures c.args.self.now c.end.new.self.track.kept.text
+          w.add_to-ended.result w.in-Ok.ensures.text w.add_to-ended.ensures.why)
       | in-Err w ↦ subst R (sym w.ended-is) w.in-Err.ensures.why
     ]
 

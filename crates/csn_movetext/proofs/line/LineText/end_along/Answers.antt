@@ -14,8 +14,11 @@ end-requires-clause-few g c =
     omega (arith, few)
 
 pub invariant_of-self : goal.invariant_of-self
-invariant_of-self g c =
-    ([], reads_anew c.replace-feed.new.dest c.new.result c.end.new.self c.replace-feed.ensures.after c.new.ensures.fed c.new.ensures.seen c.end.ensures.octets c.end.ensures.seen c.end.ensures.writes)
+invariant_of-self g c = (
+  [],
+  reads_anew c.replace-feed.new.dest c.new.result c.end.new.self c.replace-feed.ensures.after c.new.ensures.fed
+      c.new.ensures.seen c.end.ensures.octets c.end.ensures.seen c.end.ensures.writes,
+)
 
 pub returns-in-Empty : goal.returns-in-Empty
 returns-in-Empty g c = record {
@@ -27,10 +30,13 @@ returns-in-Empty g c = record {
       subst P c.self.view_is
       (if_ok c.end.result _ _
       (λ (e : LineEnd) ends. ends_with t 0 0 old new e
-      (λ line reads block. ends_empty t.form t.desc line old new e (c.in-Empty.ensures.ends line (subst (λ (f : HexFeed). Fed f line) (sym c.replace-feed.ensures.value) reads.fed)) block)
+      (λ line reads block. ends_empty t.form t.desc line old new e
+      (c.in-Empty.ensures.ends line (subst (λ (f : HexFeed). Fed f line) (sym c.replace-feed.ensures.value)
+      reads.fed)) block)
       ends)
       c.end.ensures.ends);
-  anew = reads_anew c.replace-feed.new.dest c.new.result c.end.new.self c.replace-feed.ensures.after c.new.ensures.fed c.new.ensures.seen c.end.ensures.octets c.end.ensures.seen c.end.ensures.writes;
+  anew = reads_anew c.replace-feed.new.dest c.new.result c.end.new.self c.replace-feed.ensures.after c.new.ensures.fed
+      c.new.ensures.seen c.end.ensures.octets c.end.ensures.seen c.end.ensures.writes;
   seen = ap seen_of c.replace-feed.ensures.after ∙ c.new.ensures.seen;
   form = c.end.ensures.form ∙ ap (λ (t : LineV). t.form) c.self.view_is;
   desc = c.end.ensures.desc ∙ ap (λ (t : LineV). t.desc) c.self.view_is;
@@ -41,19 +47,27 @@ pub end-requires-in-Last-clause-within : goal.end-requires-in-Last-clause-within
 end-requires-in-Last-clause-within g c =
     let line : List ℕ = c.self.invariant.0 in
     let reads : ReadsLine (line_of c.self.inside) line = c.self.invariant.1 in
-    let last : EndsWith line c.in-Last.octet c.in-Last.bits = c.in-Last.ensures.ends line (subst (λ (f : HexFeed). Fed f line) (sym c.replace-feed.ensures.value) reads.fed) in
+    let last : EndsWith line c.in-Last.octet c.in-Last.bits =
+    c.in-Last.ensures.ends line (subst (λ (f : HexFeed). Fed f line) (sym c.replace-feed.ensures.value) reads.fed)
+    in
     last.few
 
 pub end-requires-in-Last-clause-few : goal.end-requires-in-Last-clause-few
 end-requires-in-Last-clause-few g c =
     let line : List ℕ = c.self.invariant.0 in
     let reads : ReadsLine (line_of c.self.inside) line = c.self.invariant.1 in
-    let last : EndsWith line c.in-Last.octet c.in-Last.bits = c.in-Last.ensures.ends line (subst (λ (f : HexFeed). Fed f line) (sym c.replace-feed.ensures.value) reads.fed) in
+    let last : EndsWith line c.in-Last.octet c.in-Last.bits =
+    c.in-Last.ensures.ends line (subst (λ (f : HexFeed). Fed f line) (sym c.replace-feed.ensures.value) reads.fed)
+    in
     few_bits line c.self.inside.given.octets c.in-Last.octet c.in-Last.bits reads.given last
 
 pub invariant_of-self-in-Last : goal.invariant_of-self-in-Last
-invariant_of-self-in-Last g c =
-    ([], reads_anew c.replace-feed.new.dest c.new.result c.end-in-Last.new.self c.replace-feed.ensures.after c.new.ensures.fed c.new.ensures.seen c.end-in-Last.ensures.octets c.end-in-Last.ensures.seen c.end-in-Last.ensures.writes)
+invariant_of-self-in-Last g c = (
+  [],
+  reads_anew c.replace-feed.new.dest c.new.result c.end-in-Last.new.self c.replace-feed.ensures.after
+      c.new.ensures.fed c.new.ensures.seen c.end-in-Last.ensures.octets c.end-in-Last.ensures.seen
+      c.end-in-Last.ensures.writes,
+)
 
 pub returns-in-Last : goal.returns-in-Last
 returns-in-Last g c = record {
@@ -67,10 +81,14 @@ returns-in-Last g c = record {
       subst P c.self.view_is
       (if_ok c.end-in-Last.result _ _
       (λ (e : LineEnd) ends. ends_with t octet bits old new e
-      (λ line reads block. ends_last t.form t.desc line old new octet bits e (c.in-Last.ensures.ends line (subst (λ (f : HexFeed). Fed f line) (sym c.replace-feed.ensures.value) reads.fed)) block)
+      (λ line reads block. ends_last t.form t.desc line old new octet bits e
+      (c.in-Last.ensures.ends line (subst (λ (f : HexFeed). Fed f line) (sym c.replace-feed.ensures.value)
+      reads.fed)) block)
       ends)
       c.end-in-Last.ensures.ends);
-  anew = reads_anew c.replace-feed.new.dest c.new.result c.end-in-Last.new.self c.replace-feed.ensures.after c.new.ensures.fed c.new.ensures.seen c.end-in-Last.ensures.octets c.end-in-Last.ensures.seen c.end-in-Last.ensures.writes;
+  anew = reads_anew c.replace-feed.new.dest c.new.result c.end-in-Last.new.self c.replace-feed.ensures.after
+      c.new.ensures.fed c.new.ensures.seen c.end-in-Last.ensures.octets c.end-in-Last.ensures.seen
+      c.end-in-Last.ensures.writes;
   seen = ap seen_of c.replace-feed.ensures.after ∙ c.new.ensures.seen;
   form = c.end-in-Last.ensures.form ∙ ap (λ (t : LineV). t.form) c.self.view_is;
   desc = c.end-in-Last.ensures.desc ∙ ap (λ (t : LineV). t.desc) c.self.view_is;
@@ -78,15 +96,19 @@ returns-in-Last g c = record {
 }
 
 pub invariant_of-self-in-Fault : goal.invariant_of-self-in-Fault
-invariant_of-self-in-Fault g c =
-    ([], reads_anew c.replace-feed.new.dest c.new.result c.give_up.new.self c.replace-feed.ensures.after c.new.ensures.fed c.new.ensures.seen c.give_up.ensures.octets c.give_up.ensures.seen c.give_up.ensures.writes)
+invariant_of-self-in-Fault g c = (
+  [],
+  reads_anew c.replace-feed.new.dest c.new.result c.give_up.new.self c.replace-feed.ensures.after
+      c.new.ensures.fed c.new.ensures.seen c.give_up.ensures.octets c.give_up.ensures.seen c.give_up.ensures.writes,
+)
 
 pub returns-in-Fault : goal.returns-in-Fault
 returns-in-Fault g c = record {
   ends = λ line reads_now.
       let reads : ReadsLine (line_of c.self.inside) line = subst (λ (t : LineV). ReadsLine t line) (sym c.self.view_is) reads_now in
       (c.in-Fault.ensures.ends line (subst (λ (f : HexFeed). Fed f line) (sym c.replace-feed.ensures.value) reads.fed), refl);
-  anew = reads_anew c.replace-feed.new.dest c.new.result c.give_up.new.self c.replace-feed.ensures.after c.new.ensures.fed c.new.ensures.seen c.give_up.ensures.octets c.give_up.ensures.seen c.give_up.ensures.writes;
+  anew = reads_anew c.replace-feed.new.dest c.new.result c.give_up.new.self c.replace-feed.ensures.after
+      c.new.ensures.fed c.new.ensures.seen c.give_up.ensures.octets c.give_up.ensures.seen c.give_up.ensures.writes;
   seen = ap seen_of c.replace-feed.ensures.after ∙ c.new.ensures.seen;
   form = c.give_up.ensures.form ∙ ap (λ (t : LineV). t.form) c.self.view_is;
   desc = c.give_up.ensures.desc ∙ ap (λ (t : LineV). t.desc) c.self.view_is;

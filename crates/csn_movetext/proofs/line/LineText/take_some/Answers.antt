@@ -25,7 +25,13 @@ invariant_of-self g c =
     let to : ℕ = c.take_next-taken.result.to in
     let room : List ℕ = c.take_next-taken.new.room in
     let bytes : List ℕ = take c.take_next-taken.result.bytes c.args.bytes.now in
-    let seen : new.seen ≡ old.seen + length bytes = omega (arith, c.take_next-taken.ensures.seen, length-take-le c.take_next-taken.result.bytes c.args.bytes.now c.take_next-taken.ensures.within) in (
+    let seen : new.seen ≡ old.seen + length bytes =
+    omega (
+      arith,
+      c.take_next-taken.ensures.seen,
+      length-take-le c.take_next-taken.result.bytes c.args.bytes.now
+          c.take_next-taken.ensures.within,
+    ) in (
       line ++ bytes,
       reads_more old new line bytes (take (to - from) (drop from room)) reads (c.take_next-taken.ensures.fed line reads.fed)
           (c.take_next-taken.ensures.given line reads.fed ∙ ap (λ l. octets_given line ++ l) (part_is from to room c.take_next-taken.ensures.from))
@@ -41,7 +47,13 @@ returns-clause-reads g c = λ line reads_now.
     let to : ℕ = c.take_next-taken.result.to in
     let room : List ℕ = c.take_next-taken.new.room in
     let bytes : List ℕ = take c.take_next-taken.result.bytes c.args.bytes.now in
-    let seen : new.seen ≡ old.seen + length bytes = omega (arith, c.take_next-taken.ensures.seen, length-take-le c.take_next-taken.result.bytes c.args.bytes.now c.take_next-taken.ensures.within) in
+    let seen : new.seen ≡ old.seen + length bytes =
+    omega (
+      arith,
+      c.take_next-taken.ensures.seen,
+      length-take-le c.take_next-taken.result.bytes c.args.bytes.now
+          c.take_next-taken.ensures.within,
+    ) in
     reads_more old new line bytes (take (to - from) (drop from room)) reads (c.take_next-taken.ensures.fed line reads.fed)
     (c.take_next-taken.ensures.given line reads.fed ∙ ap (λ l. octets_given line ++ l) (part_is from to room c.take_next-taken.ensures.from))
     seen c.take.ensures.octets c.take.ensures.seen c.take.ensures.writes

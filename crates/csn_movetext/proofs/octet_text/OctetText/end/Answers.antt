@@ -19,7 +19,8 @@ returns-in-Ok-clause-ends g c =
     λ b count writes.
     let fits : ¬ (fed.answer ≡ NoMemory) = λ wants. let clash : Ok c.in-Ok.field-0 ≡ Err fault.NoMemory = c.in-Ok.ensures.no_memory wants in absurd (cc) in
     let for : WritesFor fed (b ++ bits) =
-    goes_on_within old fed c.args.octet c.args.bits c.from-2.result c.feed-fed.result c.from-2.ensures c.feed-fed.ensures.answer c.feed-fed.ensures.stays c.feed-fed.ensures.writes b writes fits in (
+    goes_on_within old fed c.args.octet c.args.bits c.from-2.result c.feed-fed.result c.from-2.ensures
+    c.feed-fed.ensures.answer c.feed-fed.ensures.stays c.feed-fed.ensures.writes b writes fits in (
       omega (arith, c.from.ensures, bits_with b c.args.self.now.octets c.args.octet c.args.bits count c.requires.within),
       subst (λ f. F f (b ++ bits)) c.feed-fed.ensures.form (subst (λ d. D d (b ++ bits)) c.feed-fed.ensures.desc (c.in-Ok.ensures.text (b ++ bits) for)),
     )
@@ -29,13 +30,15 @@ returns-in-Err-Refused-clause-ends g c =
     let old : BlockV = c.args.self.now.block in
     let fed : BlockV = c.feed-fed.new.self in
     let bits : List ℕ = take c.args.bits (bits_of_octet c.args.octet) in
-    let refused : Ends fed (Err (fault.Refused c.in-Err-Refused.place)) = subst (λ y. Ends fed (Err y)) c.in-Err-Refused.field-0-is c.in-Err-Refused.ensures.why in
+    let refused : Ends fed (Err (fault.Refused c.in-Err-Refused.place)) =
+    subst (λ y. Ends fed (Err y)) c.in-Err-Refused.field-0-is c.in-Err-Refused.ensures.why in
     λ b count writes.
     let fits : ¬ (fed.answer ≡ NoMemory) = λ wants.
     let is : Err c.in-Err-Refused.field-0 ≡ Err fault.NoMemory = c.in-Err-Refused.ensures.no_memory wants in
     let place : c.in-Err-Refused.field-0 ≡ fault.Refused c.in-Err-Refused.place = c.in-Err-Refused.field-0-is in absurd (cc) in
     let for : WritesFor fed (b ++ bits) =
-    goes_on_within old fed c.args.octet c.args.bits c.from-2.result c.feed-fed.result c.from-2.ensures c.feed-fed.ensures.answer c.feed-fed.ensures.stays c.feed-fed.ensures.writes b writes fits in (
+    goes_on_within old fed c.args.octet c.args.bits c.from-2.result c.feed-fed.result c.from-2.ensures
+    c.feed-fed.ensures.answer c.feed-fed.ensures.stays c.feed-fed.ensures.writes b writes fits in (
       omega (arith, c.from.ensures, bits_with b c.args.self.now.octets c.args.octet c.args.bits count c.requires.within),
       subst (λ d. IsNoString d (b ++ bits) c.in-Err-Refused.place) c.feed-fed.ensures.desc (refused (b ++ bits) for),
       c.in-Err-Refused.ensures.same c.in-Err-Refused.place (ap (λ y. Err y) c.in-Err-Refused.field-0-is),

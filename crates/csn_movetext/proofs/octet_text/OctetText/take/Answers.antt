@@ -12,4 +12,5 @@ returns-clause-writes g c =
     let new : BlockV = c.feed-fed.new.self in
     λ b writes.
     subst (λ l. WritesOrWants new (b ++ l)) (whole_bits octets all refl)
-    (goes_on c.args.self.now.block new (take all (bits_of_octets octets)) c.feed-fed.result c.feed-fed.ensures.answer c.feed-fed.ensures.stays c.feed-fed.ensures.writes b writes)
+    (goes_on c.args.self.now.block new (take all (bits_of_octets octets)) c.feed-fed.result c.feed-fed.ensures.answer
+    c.feed-fed.ensures.stays c.feed-fed.ensures.writes b writes)

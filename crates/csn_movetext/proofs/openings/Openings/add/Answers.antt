@@ -8,4 +8,9 @@ returns-clause-added c =
     let own = opening_of c.args.form c.args.number c.args.node.now in
     let text : c.as_slice.result.now ≡ own = c.as_slice.ensures.value ∙ c.in_ok-push_opening.ensures.text ∙ ap (λ l. l ++ own) c.clear.ensures.items in
     on_ok c.push.result (λ same.
-    same ∙ ap (λ l. record { form = c.args.self.now.form; texts = c.args.self.now.texts ++ l ∷ []; templates = c.args.self.now.templates }) text) c.push.ensures
+    same ∙ ap (λ l. record {
+      form = c.args.self.now.form;
+      texts = c.args.self.now.texts ++ l ∷ [];
+      templates =
+          c.args.self.now.templates;
+    }) text) c.push.ensures

@@ -9,9 +9,11 @@ pub loop-piece-preserved : goal.loop-piece-preserved
 loop-piece-preserved c =
     let pieces : List Piece = c.args.part.now.pieces.items in
     let k : ℕ = c.loop-piece.piece-index in
-    let there = read_piece c.deref-piece-items.result.now pieces k c.piece-item.result c.deref-piece-items.ensures.value c.loop-piece-test.true c.piece-item.is in
+    let there = read_piece c.deref-piece-items.result.now pieces k c.piece-item.result
+    c.deref-piece-items.ensures.value c.loop-piece-test.true c.piece-item.is in
     λ number.
-    piece_added c.args.self.now c.loop-piece.self c.push_text.new.self c.push_field.new.self pieces k c.piece-item.result c.as_slice.result.now c.args.behind number
+    piece_added c.args.self.now c.loop-piece.self c.push_text.new.self c.push_field.new.self pieces k
+    c.piece-item.result c.as_slice.result.now c.args.behind number
     there c.as_slice.ensures.value (c.in_ok-push_text.ensures number) (c.in_ok-push_field.ensures number) (c.loop-piece.invariant number)
 
 pub returns : goal.returns

@@ -10,7 +10,8 @@ pub loop-piece-preserved : goal.loop-piece-preserved
 loop-piece-preserved c =
     let pieces : List Piece = c.args.self.now.pieces.items in
     let k : ℕ = c.loop-piece.piece-index in
-    let there = read_piece c.deref-piece-items.result.now pieces k c.piece-item.result c.deref-piece-items.ensures.value c.loop-piece-test.true c.piece-item.is in
+    let there = read_piece c.deref-piece-items.result.now pieces k c.piece-item.result
+    c.deref-piece-items.ensures.value c.loop-piece-test.true c.piece-item.is in
     c.in_ok-write.ensures.text
     ∙ ap (λ l. l ++ piece_text c.piece-item.result c.args.number) c.loop-piece.invariant
     ∙ append_assoc c.args.out.now.items (pieces_text (take k pieces) c.args.number) (piece_text c.piece-item.result c.args.number)

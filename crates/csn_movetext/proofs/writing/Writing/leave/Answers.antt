@@ -7,20 +7,25 @@ use Rattle.csn_movetext.proofs.writing.Writing.leave.Goals as goal
 
 pub returns-in-Spare-clause-left_node : goal.returns-in-Spare-clause-left_node
 returns-in-Spare-clause-left_node c =
-    on_ok c.close.result (λ closed w u s e. closed w u (Some 1) (refl, omega arith, omega arith) s (ap (λ n. left_node c.args.form n w) (sym c.in-Spare.is) ∙ e)) c.close.ensures.closed
+    on_ok c.close.result (λ closed w u s e. closed w u (Some 1) (refl, omega arith, omega arith) s
+    (ap (λ n. left_node c.args.form n w) (sym c.in-Spare.is) ∙ e)) c.close.ensures.closed
 
 pub returns-in-Field-clause-left_node : goal.returns-in-Field-clause-left_node
 returns-in-Field-clause-left_node c =
     let told = subst (λ n. IsTold (leaf_width n) c.is_told.result) c.in-Field.is c.is_told.ensures in
-    on_ok c.close-in-Field.result (λ closed w u s e. closed w u _ told s (ap (λ n. left_node c.args.form n w) (sym c.in-Field.is) ∙ e)) c.close-in-Field.ensures.closed
+    on_ok c.close-in-Field.result
+    (λ closed w u s e. closed w u _ told s (ap (λ n. left_node c.args.form n w) (sym c.in-Field.is) ∙ e))
+    c.close-in-Field.ensures.closed
 
 pub returns-in-Pad-clause-left_node : goal.returns-in-Pad-clause-left_node
 returns-in-Pad-clause-left_node c =
-    on_ok c.close-in-Pad.result (λ closed w u s e. closed w u None refl s (ap (λ n. left_node c.args.form n w) (sym c.in-Pad.is) ∙ e)) c.close-in-Pad.ensures.closed
+    on_ok c.close-in-Pad.result (λ closed w u s e. closed w u None refl s
+    (ap (λ n. left_node c.args.form n w) (sym c.in-Pad.is) ∙ e)) c.close-in-Pad.ensures.closed
 
 pub returns-in-Rest-clause-left_node : goal.returns-in-Rest-clause-left_node
 returns-in-Rest-clause-left_node c =
-    on_ok c.close-in-Rest.result (λ closed w u s e. closed w u None refl s (ap (λ n. left_node c.args.form n w) (sym c.in-Rest.is) ∙ e)) c.close-in-Rest.ensures.closed
+    on_ok c.close-in-Rest.result (λ closed w u s e. closed w u None refl s
+    (ap (λ n. left_node c.args.form n w) (sym c.in-Rest.is) ∙ e)) c.close-in-Rest.ensures.closed
 
 pub returns-in_err-shut-in-Seq-clause-extends : goal.returns-in_err-shut-in-Seq-clause-extends
 returns-in_err-shut-in-Seq-clause-extends c = c.in_err-shut-in-Seq.ensures.extends

@@ -11,9 +11,13 @@ pub returns-clause-flushed : goal.returns-clause-flushed
 returns-clause-flushed c = λ b are long number.
     let begun = c.in_ok-begin_long.ensures in
     let rest : ℕ = c.begin_long.new.self.held % 8 in
-    let P : ℕ → Type 0 = λ m. Flushed (c.args.self.now.out.items ++ sign c.args.form c.args.self.now.long) c.push_octets.new.out.items b rest (c.begin_long.new.self.bits % m) in
+    let P : ℕ → Type 0 = λ m. Flushed (c.args.self.now.out.items ++ sign c.args.form c.args.self.now.long)
+    c.push_octets.new.out.items b rest (c.begin_long.new.self.bits % m) in
     subst P (sym (one_shl rest 64 (omega arith)))
-    (flushed (c.in_ok-push_octets.ensures.digits ∙ ap (λ l. l ++ encode_upper (octets_of (low_bits (8 * (c.begin_long.new.self.held / 8)) (c.begin_long.new.self.bits / 2 ^ rest)))) begun.out)
+    (flushed (c.in_ok-push_octets.ensures.digits ∙ ap
+    (λ l. l ++ encode_upper
+    (octets_of (low_bits (8 * (c.begin_long.new.self.held / 8)) (c.begin_long.new.self.bits / 2 ^ rest))))
+    begun.out)
     b are (long ∙ sym begun.held) (number ∙ sym begun.bits))
 
 pub returns-in_err-begin_long-clause-extends : goal.returns-in_err-begin_long-clause-extends

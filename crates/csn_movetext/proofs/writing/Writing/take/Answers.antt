@@ -7,7 +7,8 @@ returns-then-self-count-gt-MOST_HELD-clause-took c =
     let added = c.add.ensures in
     let wrote = c.in_ok-octets.ensures in
     λ w s. flushed_shows c.args.form (kept_of c.args.self.now) (kept_of c.octets.new.self) (kept_of c.add.new.self) w c.args.number c.args.count
-    c.if-self-count-gt-MOST_HELD.true wrote.flushed wrote.long wrote.left added.held (λ small. last_bits c.args.number c.args.count _ c.requires.few (added.bits small))
+    c.if-self-count-gt-MOST_HELD.true wrote.flushed wrote.long wrote.left added.held
+    (λ small. last_bits c.args.number c.args.count _ c.requires.few (added.bits small))
     added.out added.left added.long s
 
 pub returns-clause-took : goal.returns-clause-took

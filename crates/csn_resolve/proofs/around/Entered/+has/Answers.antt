@@ -11,11 +11,13 @@ returns-in-Nothing t c = sym (ap (λ e. is_among c.args.name.now (entered_view e
 pub returns-then-eq : goal.returns-then-eq
 returns-then-eq t c =
     let sure : same_name c.in-Rule.other.now c.args.name.now ≡ true = cc in
-    let view = ap (λ e. is_among c.args.name.now (entered_view e)) c.in-Rule.is ∙ ap (is_among c.args.name.now) (entered-Rule c.in-Rule.other c.in-Rule.outer) in
+    let view = ap (λ e. is_among c.args.name.now (entered_view e)) c.in-Rule.is ∙ ap (is_among c.args.name.now)
+    (entered-Rule c.in-Rule.other c.in-Rule.outer) in
     c.if-eq.true ∙ sym (view ∙ among-here c.args.name.now c.in-Rule.other.now _ sure)
 
 pub returns-else-eq : goal.returns-else-eq
 returns-else-eq t c =
     let unlike : same_name c.in-Rule.other.now c.args.name.now ≡ false = cc in
-    let view = ap (λ e. is_among c.args.name.now (entered_view e)) c.in-Rule.is ∙ ap (is_among c.args.name.now) (entered-Rule c.in-Rule.other c.in-Rule.outer) in
+    let view = ap (λ e. is_among c.args.name.now (entered_view e)) c.in-Rule.is ∙ ap (is_among c.args.name.now)
+    (entered-Rule c.in-Rule.other c.in-Rule.outer) in
     c.has.ensures ∙ sym (view ∙ among-later c.args.name.now c.in-Rule.other.now _ unlike)

@@ -37,13 +37,16 @@ decreases-build_turn l = 2 * left l.self.now.names.now l.round.names (list_size 
 
 abbrev pub invariant-build_items-loop-at : goal.invariant-build_items-loop-at
 invariant-build_items-loop-at l = record {
-  left : ItemsLeft l.self.names.now l.self.reading (take l.count l.items) (shown_view l.self.reading l.round.shown.now) l.fn.parts l.fn.made (drop l.at (take l.count l.items)) (frame_before l.self.reading [] l.items l.nodes.items) l.parts l.made;
+  left : ItemsLeft l.self.names.now l.self.reading (take l.count l.items)
+      (shown_view l.self.reading l.round.shown.now) l.fn.parts l.fn.made (drop l.at (take l.count l.items))
+      (frame_before l.self.reading [] l.items l.nodes.items) l.parts l.made;
   long : length l.nodes.items ≡ l.at;
   room : length l.parts ≤ length l.made;
 }
 
 abbrev pub invariant-build_branches-loop-at : goal.invariant-build_branches-loop-at
 invariant-build_branches-loop-at l = record {
-  left : KeptLeft l.self.names.now l.self.reading l.branches (shown_view l.self.reading l.round.shown.now) l.fn.parts l.fn.made (drop l.at l.branches) l.parts l.made;
+  left : KeptLeft l.self.names.now l.self.reading l.branches (shown_view l.self.reading l.round.shown.now)
+      l.fn.parts l.fn.made (drop l.at l.branches) l.parts l.made;
   room : length l.parts ≤ length l.made;
 }

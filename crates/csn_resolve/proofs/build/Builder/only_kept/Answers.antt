@@ -14,7 +14,8 @@ returns-then-is_some c =
 pub loop-at-preserved-then-not-is_kept : goal.loop-at-preserved-then-not-is_kept
 loop-at-preserved-then-not-is_kept c =
     only-past c.args.self.now.names.now c.args.self.now.reading c.args.branches.now
-    (drop_at c.args.branches.now c.loop-at.at c.get-branch.result.now c.get-branch.ensures) (λ k. both_ways _ c.if-not-is_kept.true (c.is_kept.ensures.1 k)) c.loop-at.invariant
+    (drop_at c.args.branches.now c.loop-at.at c.get-branch.result.now c.get-branch.ensures)
+    (λ k. both_ways _ c.if-not-is_kept.true (c.is_kept.ensures.1 k)) c.loop-at.invariant
 
 pub loop-at-preserved : goal.loop-at-preserved
 loop-at-preserved c =

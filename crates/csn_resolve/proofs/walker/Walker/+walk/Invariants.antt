@@ -18,7 +18,8 @@ abbrev pub invariant-walk_items-loop-at : goal.invariant-walk_items-loop-at
 invariant-walk_items-loop-at l =
     (steps : List Step) → ItemsWalk l.self.names.now l.self.reading l.full (around_view l.self.reading l.around) [] (exprs_of (take l.count l.items)) steps
     → (rest : List Step)
-    × ItemsWalk l.self.names.now l.self.reading l.full (around_view l.self.reading l.around) (frame_after l.self.reading [] (take l.at l.items)) (exprs_of (drop l.at (take l.count l.items))) rest
+    × ItemsWalk l.self.names.now l.self.reading l.full (around_view l.self.reading l.around)
+    (frame_after l.self.reading [] (take l.at l.items)) (exprs_of (drop l.at (take l.count l.items))) rest
     × (way l.fn.begun.nodes steps ≡ way l.begun.nodes rest)
 
 abbrev pub decreases-walk_name : goal.decreases-walk_name

@@ -13,7 +13,8 @@ pub returns-then-pass : goal.returns-then-pass
 returns-then-pass c = λ steps h begun.
     let few : c.loop-at.at < c.args.tail.count = c.loop-at-test.true in
     let Q : MarksV → Type 0 = λ m. Passes m.rules m.test c.get.result.now in
-    let void : Void c.args.self.now.names.now c.args.self.now.reading c.get.result.now = subst Q c.args.self.now.tables.void_is (c.pass.ensures.0 c.if-pass.true) in
+    let void : Void c.args.self.now.names.now c.args.self.now.reading c.get.result.now =
+    subst Q c.args.self.now.tables.void_is (c.pass.ensures.0 c.if-pass.true) in
     let some = some-at c.args.self.now.names.now c.args.self.now.reading (take c.args.tail.count c.args.tail.items.now) c.loop-at.at c.get.result.now
     (take_get c.args.tail.items.now c.args.tail.count c.loop-at.at c.get.result.now few c.get.ensures) void in
     rw c.refusal.ensures (ap (way begun) (refuses-where some h))
@@ -32,4 +33,5 @@ returns c = λ steps h begun.
     let none : drop c.loop-at.at (take c.args.tail.count c.args.tail.items.now) ≡ [] =
     drop_all c.loop-at.at (take c.args.tail.count c.args.tail.items.now) (omega (arith, take_short c.args.tail.count c.args.tail.items.now)) in
     ap (way begun) (refuses-not
-    (λ v. none-left c.args.self.now.names.now c.args.self.now.reading (drop c.loop-at.at (take c.args.tail.count c.args.tail.items.now)) none (c.loop-at.invariant v)) h)
+    (λ v. none-left c.args.self.now.names.now c.args.self.now.reading
+    (drop c.loop-at.at (take c.args.tail.count c.args.tail.items.now)) none (c.loop-at.invariant v)) h)

@@ -19,7 +19,8 @@ invariant_of-result c =
     let within : many ≤ length octets = omega (arith, c.div_ceil-many.ensures, c.requires.within) in
     let long : 8 * many ≤ length (bits_of_octets octets) = omega (arith, within, length-bits_of_octets octets) in
     let are : IsBits (take (8 * many) (bits_of_octets octets)) = subst IsBits (c.number.view_is ∙ c.in_ok-from_octets.ensures.ok) c.number.invariant.bits in
-    let first : c.number-first.result ≡ number_of (take (8 * many) (bits_of_octets octets)) = c.number-first.ensures ∙ ap number_of c.in_ok-from_octets.ensures.ok in
+    let first : c.number-first.result ≡ number_of (take (8 * many) (bits_of_octets octets)) = c.number-first.ensures
+    ∙ ap number_of c.in_ok-from_octets.ensures.ok in
     record {
       some = c.requires.some;
       narrow = c.requires.narrow;
@@ -56,7 +57,14 @@ from_octets-requires c = omega (arith, c.div_ceil-many.ensures, c.requires.withi
 pub number-first-requires : goal.number-first-requires
 number-first-requires c =
     let octets : List ℕ = c.args.sample.octets.now in
-    omega (arith, c.div_ceil-many.ensures, c.requires.near, ap length c.in_ok-from_octets.ensures.ok, length-take (8 * c.div_ceil-many.result) (bits_of_octets octets))
+    omega (
+      arith,
+      c.div_ceil-many.ensures,
+      c.requires.near,
+      ap length c.in_ok-from_octets.ensures.ok,
+      length-take
+          (8 * c.div_ceil-many.result) (bits_of_octets octets),
+    )
 
 pub overflow_add-result : goal.overflow_add-result
 overflow_add-result c = omega (arith, c.div_ceil-many.ensures, c.requires.near)

@@ -12,10 +12,15 @@ pub returns : goal.returns
 returns c =
     let frames = c.self.inside.frames.items in
     let some : 1 ≤ length frames = in_row_some frames (ap is_in_row c.self.view_is ∙ c.requires.row) in
-    let there = slice_get_read frames c.len-last.result (c.len-last.result - 1) c.index_mut.result.now (omega arith) (omega arith) c.index_mut.ensures.value ∙ ap Some c.in-Row.is in
+    let there = slice_get_read frames c.len-last.result (c.len-last.result - 1) c.index_mut.result.now (omega arith)
+    (omega arith) c.index_mut.ensures.value ∙ ap Some c.in-Row.is in
     elim c.match-push.branch [
-      | in-Ok w ↦ subst (λ r. OnOk r (with_tree c.args.self.now c.args.tree ≡ state Behind (reverse (set frames (c.len-last.result - 1) (Row c.push.new.self))))) (sym w.result-is)
+      | in-Ok w ↦ subst
+          (λ r. OnOk r (with_tree c.args.self.now c.args.tree ≡ state Behind
+          (reverse (set frames (c.len-last.result - 1) (Row c.push.new.self))))) (sym w.result-is)
           (ap (λ s. with_tree s c.args.tree) (sym c.self.view_is)
           ∙ tree_pushed frames (c.len-last.result - 1) c.in-Row.rows c.push.new.self c.args.tree (omega arith) there w.in-Ok.ensures.ok)
-      | in-Err w ↦ subst (λ r. OnOk r (with_tree c.args.self.now c.args.tree ≡ state Behind (reverse (set frames (c.len-last.result - 1) (Row c.push.new.self))))) (sym w.result-is) tt
+      | in-Err w ↦ subst
+          (λ r. OnOk r (with_tree c.args.self.now c.args.tree ≡ state Behind
+          (reverse (set frames (c.len-last.result - 1) (Row c.push.new.self))))) (sym w.result-is) tt
     ]
