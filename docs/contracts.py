@@ -233,16 +233,6 @@ def marked(lines):
     return " ".join(" ".join(line.strip()[2:].strip() for line in lines).split())
 
 
-def head_of(text):
-    """The first sentence at the head of a file of definitions."""
-    lines = []
-    for line in text.splitlines():
-        if not line.startswith("--") or line.strip() == "--":
-            break
-        lines.append(line)
-    return short(re.sub(r"\(This project.*|, which is this project.*|\((?:3GPP|This).*", "", first_sentence(marked(lines))).strip())
-
-
 def definition_files(crate):
     """The texts of the files of a crate's specs/, by their names."""
     paths = sorted((ROOT / "crates" / crate / "specs").glob("*.antt"))
@@ -264,12 +254,6 @@ def definitions(crate):
             words = {word for word in WORD.findall(body) if word in names and word != name}
             cites = {names[word] or (crate, file, word) for word in words}
             yield Definition(file, name, marked(lines[above:at]), cites)
-
-
-def table(heads, rows):
-    """A table of Markdown; a bar inside a cell is escaped."""
-    lines = [heads, ["---"] * len(heads)] + [[cell.replace("|", "\\|") for cell in row] for row in rows]
-    return "\n".join("| " + " | ".join(line) + " |" for line in lines)
 
 
 def write_or_check(path, text, words):
