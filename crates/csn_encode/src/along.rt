@@ -1,4 +1,4 @@
-//! Trees that are written along their text, without the trees themselves. Where that does not succeed, nothing is said of the text.
+//! Trees that are written along their text, in either form, without the trees themselves. Where that does not succeed, nothing is said of the text.
 
 ghost use Rattle.std.specs.Prelude.{◌≡◌, ◌*◌, ℕ, true, false, length, slice_get, Some, IfSome};
 ghost use Rattle.csn_desc.specs.declared.node.Count.{Count as CountV};
@@ -10,9 +10,10 @@ ghost use Rattle.csn_encode.specs.Following.{BeginsWith, BeginsWithRow};
 ghost use Rattle.csn_encode.specs.Writing.{Stands, StandsAtPart, StandsAtParts, Added, Adds, AddsNode, AddsParts};
 
 use crate::draft::Draft;
-use crate::text::{alternative, behind, behind_label, goes_on, next_tree};
+use crate::text::{alternative, behind, behind_closing, behind_label, goes_on, next_tree};
 use csn_certify::{Plan, Steps};
 use csn_desc::{Label, Node, Parts};
+use csn_json::TreeForm;
 use std::alloc::Global;
 use std::sync::ledger::Ledger;
 
@@ -27,10 +28,11 @@ struct RowEnd<'a> {
     rest: &'a [u8],
 }
 
-/// What is the same for all nodes: where memory comes from, and the description.
+/// What is the same for all nodes: where memory comes from, the form of the text, and the description.
 #[derive(Clone, Copy)]
 pub(crate) struct Ground<'a> {
     pub alloc: Global,
+    pub form: TreeForm,
     pub plan: &'a Plan,
 }
 
@@ -47,20 +49,23 @@ impl Draft {
     ) -> Option<&'a [u8]>
         requires { (v : Values) × Stands ground.plan.now i round v self.old }
         ensures { IfSome result
-            (λ rest. BeginsWith text.now (λ t. (v : Values) → Stands ground.entry.plan.now i round v self.old
+            (λ rest. BeginsWith ground.entry.form text.now (λ t. (v : Values) → Stands ground.entry.plan.now i round v self.old
             → Adds ground.entry.plan.now i v t self.old self.new) rest.now) }
     {
         let plan = ground.plan;
+        let form = ground.form;
         match plan.node(i, steps) {
-            Node::Lits(run) => self.literal_text(run, text),
-            Node::Spare(symbol) => { self.spare_text(ground.alloc, *symbol, plan.reading(), text) }
-            Node::Pad => self.padding_text(ground.alloc, plan.reading(), text),
-            Node::Null => self.null_text(text),
+            Node::Lits(run) => self.literal_text(form, run, text),
+            Node::Spare(symbol) => {
+                self.spare_text(form, ground.alloc, *symbol, plan.reading(), text)
+            }
+            Node::Pad => self.padding_text(form, ground.alloc, plan.reading(), text),
+            Node::Null => self.null_text(form, text),
             Node::Field { unit, count } => {
                 let wanted = u32::from(*unit) * self.count_of(count);
-                self.field_text(ground.alloc, wanted, text)
+                self.field_text(form, ground.alloc, wanted, text)
             }
-            Node::Rest => self.rest_text(ground.alloc, text),
+            Node::Rest => self.rest_text(form, ground.alloc, text),
             Node::Seq(parts) => self.sequence_text(ground, parts, round, text, steps),
             Node::Choice(parts) => self.choice_text(ground, parts, round, text, steps),
             Node::Times { count, part } => {
@@ -91,9 +96,10 @@ impl Draft {
     ) -> Option<&'a [u8]>
         requires { (v : Values) × StandsAtParts ground.plan.now true parts.now round v self.old }
         ensures { IfSome result
-            (λ rest. BeginsWith text.now (λ t. (v : Values) → StandsAtParts ground.entry.plan.now true parts.now round
+            (λ rest. BeginsWith ground.entry.form text.now (λ t. (v : Values) → StandsAtParts ground.entry.plan.now true parts.now round
             v self.old → AddsNode ground.entry.plan.now (node.Seq parts.now) v t self.old self.new) rest.now) }
     {
+        csn_json::laws::texts_are_joined();
         let row = self.parts_text(ground, parts, round, behind(text, b'[')?, steps)?;
         if row.count != u32::from(parts.len()) {
             return None;
@@ -113,9 +119,10 @@ impl Draft {
     ) -> Option<&'a [u8]>
         requires { (v : Values) × StandsAtParts ground.plan.now true parts.now round v self.old }
         ensures { IfSome result
-            (λ rest. BeginsWith text.now (λ t. (v : Values) → StandsAtParts ground.entry.plan.now true parts.now round
+            (λ rest. BeginsWith ground.entry.form text.now (λ t. (v : Values) → StandsAtParts ground.entry.plan.now true parts.now round
             v self.old → AddsNode ground.entry.plan.now (node.Trunc parts.now) v t self.old self.new) rest.now) }
     {
+        csn_json::laws::texts_are_joined();
         let row = self.parts_text(ground, parts, round, behind(text, b'[')?, steps)?;
         if row.kept < row.count {
             return None;
@@ -135,12 +142,14 @@ impl Draft {
     ) -> Option<&'a [u8]>
         requires { (v : Values) × StandsAtParts ground.plan.now false parts.now round v self.old }
         ensures { IfSome result
-            (λ rest. BeginsWith text.now (λ t. (v : Values)
+            (λ rest. BeginsWith ground.entry.form text.now (λ t. (v : Values)
             → StandsAtParts ground.entry.plan.now false parts.now round v self.old → AddsNode ground.entry.plan.now
             (node.Choice parts.now) v t self.old self.new) rest.now) }
     {
-        let (number, tail) = alternative(text, parts.len())?;
-        self.write_text(ground, parts.get(number), round + 1, tail, steps)
+        csn_json::laws::texts_are_joined();
+        let (number, tail) = alternative(ground.form, text, parts.len())?;
+        let rest = self.write_text(ground, parts.get(number), round + 1, tail, steps)?;
+        behind_closing(ground.form, rest)
     }
 
     /// Writes the tree of a repetition by number.
@@ -155,10 +164,11 @@ impl Draft {
         steps: &mut Steps<L>,
     ) -> Option<&'a [u8]>
         requires { (v : Values) × StandsAtPart ground.plan.now part round v self.old }
-        ensures { IfSome result (λ rest. BeginsWith text.now (λ t. (v : Values) (count : CountV)
+        ensures { IfSome result (λ rest. BeginsWith ground.entry.form text.now (λ t. (v : Values) (count : CountV)
             → StandsAtPart ground.entry.plan.now part round v self.old → count_of v count ≡ Some wanted
             → AddsNode ground.entry.plan.now (node.Times count part) v t self.old self.new) rest.now) }
     {
+        csn_json::laws::texts_are_joined();
         let row = self.turns_text(ground, wanted, part, round, behind(text, b'[')?, steps)?;
         if row.count != wanted {
             return None;
@@ -177,12 +187,13 @@ impl Draft {
         steps: &mut Steps<L>,
     ) -> Option<&'a [u8]>
         requires { (v : Values) × StandsAtPart ground.plan.now part round v self.old }
-        ensures { IfSome result (λ rest. BeginsWith text.now (λ t. (v : Values) (i : ℕ)
+        ensures { IfSome result (λ rest. BeginsWith ground.entry.form text.now (λ t. (v : Values) (i : ℕ)
             → slice_get ground.entry.plan.now.nodes i ≡ Some (node.Many part)
             → StandsAtPart ground.entry.plan.now part round v self.old → AddsNode ground.entry.plan.now
             (node.Many part) v t self.old self.new) rest.now) }
     {
         csn_certify::laws::turns_have_bits();
+        csn_json::laws::texts_are_joined();
         let row = self.turns_text(ground, u32::MAX, part, round, behind(text, b'[')?, steps)?;
         Some(row.rest)
     }
@@ -200,7 +211,7 @@ impl Draft {
     ) -> Option<RowEnd<'a>>
         requires { (v : Values) × StandsAtPart ground.plan.now part round v self.old }
         ensures { IfSome result
-            (λ row. BeginsWithRow text.now (λ ts. (v : Values)
+            (λ row. BeginsWithRow ground.entry.form text.now (λ ts. (v : Values)
             → StandsAtPart ground.entry.plan.now part round v self.old
             → Added (λ b. TimesMean ground.entry.plan.now (length ts) part (length self.old.bits) v b (trees_of ts))
             self.old self.new) row.count row.rest.now) }
@@ -208,7 +219,13 @@ impl Draft {
         let mut count = 0;
         let mut rest = text;
         while goes_on(rest, count, most) {
-            rest = self.write_text(ground, part, round + 1, next_tree(rest, count)?, steps)?;
+            rest = self.write_text(
+                ground,
+                part,
+                round + 1,
+                next_tree(ground.form, rest, count)?,
+                steps,
+            )?;
             count += 1;
         }
         let rest = behind(rest, b']')?;
@@ -231,7 +248,7 @@ impl Draft {
     ) -> Option<RowEnd<'a>>
         requires { (v : Values) × StandsAtParts ground.plan.now true parts.now round v self.old }
         ensures { IfSome result
-            (λ row. BeginsWithRow text.now (λ ts. (v : Values)
+            (λ row. BeginsWithRow ground.entry.form text.now (λ ts. (v : Values)
             → StandsAtParts ground.entry.plan.now true parts.now round v self.old
             → AddsParts ground.entry.plan.now parts.now v (trees_of ts) self.old self.new row.kept)
             row.count row.rest.now) }
@@ -243,7 +260,13 @@ impl Draft {
         while goes_on(rest, count, u32::from(parts.len())) {
             let part = parts.get(count as u16);
             let from = self.bits.len();
-            rest = self.write_text(ground, part, round + 1, next_tree(rest, count)?, steps)?;
+            rest = self.write_text(
+                ground,
+                part,
+                round + 1,
+                next_tree(ground.form, rest, count)?,
+                steps,
+            )?;
             self.keep(ground.plan, part, from);
             count += 1;
             if self.bits.len() > from {
@@ -267,7 +290,7 @@ impl Draft {
         steps: &mut Steps<L>,
     ) -> Option<&'a [u8]>
         requires { (v : Values) × StandsAtPart ground.plan.now part round v self.old }
-        ensures { IfSome result (λ rest. BeginsWith text.now (λ t. (v : Values) (unit n : ℕ) (count : CountV)
+        ensures { IfSome result (λ rest. BeginsWith ground.entry.form text.now (λ t. (v : Values) (unit n : ℕ) (count : CountV)
             → StandsAtPart ground.entry.plan.now part round v self.old → count_of v count ≡ Some n → wanted ≡ unit * n
             → AddsNode ground.entry.plan.now (node.Window unit count part) v t self.old self.new) rest.now) }
     {
@@ -292,10 +315,12 @@ impl Draft {
     ) -> Option<&'a [u8]>
         requires { (v : Values) × StandsAtPart ground.plan.now part round v self.old }
         ensures { IfSome result
-            (λ rest. BeginsWith text.now (λ t. (v : Values) → StandsAtPart ground.entry.plan.now part round v self.old
+            (λ rest. BeginsWith ground.entry.form text.now (λ t. (v : Values) → StandsAtPart ground.entry.plan.now part round v self.old
             → AddsNode ground.entry.plan.now (node.Named label.now part) v t self.old self.new) rest.now) }
     {
-        let tail = behind_label(text, label.bytes())?;
-        self.write_text(ground, part, round + 1, tail, steps)
+        csn_json::laws::texts_are_joined();
+        let tail = behind_label(ground.form, text, label.bytes())?;
+        let rest = self.write_text(ground, part, round + 1, tail, steps)?;
+        behind_closing(ground.form, rest)
     }
 }

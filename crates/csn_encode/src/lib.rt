@@ -14,7 +14,7 @@ mod text;
 mod text_leaf;
 mod write;
 
-pub use encoding::{encode, encode_text};
+pub use encoding::{encode, encode_json, encode_text};
 pub use fault::EncodeFault;
 pub use misfit::{Misfit, MisfitWhy};
 pub use path::{MOST_STEPS, Path};

@@ -1,5 +1,6 @@
 pub mod JsonTree
 pub mod JsonText
+pub mod Forms
 pub mod Reading
 pub mod Laws
 pub mod Examples

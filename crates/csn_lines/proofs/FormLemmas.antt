@@ -6,7 +6,7 @@ use Rattle.csn_desc.specs.TreeParts.{HasTreeParts}
 use Rattle.csn_treetext.specs.declared.version.Version.TheVariants.{Second}
 use Rattle.csn_treetext.specs.Fits.{Fits}
 use Rattle.csn_json.specs.declared.fault.JsonFault.TheVariants.{NotJson, NotTree}
-use Rattle.csn_movetext.specs.Forms.{IsShown, text_in}
+use Rattle.csn_json.specs.Forms.{IsShown, text_in}
 use Rattle.csn_json.specs.declared.form.TreeForm.{TreeForm}
 use Rattle.csn_json.specs.declared.form.TreeForm.TheVariants.{Text, Json}
 use Rattle.csn_lines.specs.Known.{Known}
@@ -60,6 +60,12 @@ module _ (known : Known) where
   pub one_read : (form : TreeForm) (t u : TreeV) (line : List ℕ) → IsRead form t line → IsRead form u line → t ≡ u
   one_read Text t u line is has = known.of_trees.one_tree t u line is has
   one_read Json t u line is has = known.of_json.one_tree t u line is has
+
+  -- what is written for a tree is read as it
+  pub shown_is_read : (form : TreeForm) (t : TreeV) (line : List ℕ) → line ≡ text_in form t → Fits t → HasTreeParts t → IsRead form t line
+  shown_is_read Text t line spelled fits parts = record { fits = fits; parts = parts; spelled = spelled }
+  shown_is_read Json t line spelled fits parts =
+      known.of_json.written t line (record { fits = fits; parts = parts; spelled = spelled })
 
   pub not_unread : (form : TreeForm) (t : TreeV) (line answer : List ℕ) → IsRead form t line → IsUnread form line answer → ⊥
   not_unread Text t line answer is bad = bad.1.no_tree t is

@@ -8,7 +8,7 @@ use Rattle.csn_desc.specs.declared.reading.Reading.{Reading}
 use Rattle.csn_desc.specs.TreeV.{TreeV}
 use Rattle.csn_grammar.specs.RulesV.{RulesV}
 use Rattle.csn_grammar.specs.Strings.{Strings}
-use Rattle.csn_movetext.specs.Forms.{IsShown}
+use Rattle.csn_json.specs.Forms.{IsShown}
 use Rattle.csn_json.specs.declared.form.TreeForm.{TreeForm}
 use Rattle.csn_json.specs.declared.form.TreeForm.TheVariants.{Text, Json}
 use Rattle.csn_lines.specs.Known.{Known}

@@ -15,7 +15,7 @@ use Rattle.csn_grammar.specs.Shaped.{AreShaped}
 use Rattle.csn_grammar.specs.Strings.{Strings, IsPlace}
 use Rattle.csn_look.specs.declared.word.TheConstants.{MOST_WORD}
 use Rattle.csn_lines.specs.Known.{Known}
-use Rattle.csn_movetext.specs.Forms.{IsShown}
+use Rattle.csn_json.specs.Forms.{IsShown}
 use Rattle.csn_json.specs.declared.form.TreeForm.{TreeForm}
 use Rattle.csn_plan.specs.Compiled.{IsCompiled}
 use Rattle.csn_lines.specs.OutLine.{ShowsBlock, ShowsLine, shows_block, shows_tree, shows_place, shows_fault, fault_text, refusal_text}

@@ -11,14 +11,12 @@ use Rattle.csn_resolve.specs.Resolved.{IsResolved}
 use Rattle.csn_encode.specs.declared.misfit.MisfitWhy.{MisfitWhy}
 use Rattle.csn_encode.specs.Misfits.{IsMisfit}
 use Rattle.csn_encode.specs.Encoding.{IsBlockOf, HasNoBlock}
-use Rattle.csn_treetext.specs.declared.version.Version.TheVariants.{Second}
-use Rattle.csn_treetext.specs.Text.{text_of}
+use Rattle.csn_json.specs.Forms.{text_in}
 use Rattle.csn_lines.specs.Known.{Known}
 use Rattle.csn_json.specs.declared.form.TreeForm.{TreeForm}
-use Rattle.csn_json.specs.declared.form.TreeForm.TheVariants.{Text}
 use Rattle.csn_plan.specs.Compiled.{IsCompiled}
 use Rattle.csn_lines.specs.OutLine.{IsRead, WritesLine, writes_block, writes_misfit, writes_bad, misfit_text}
-use Rattle.csn_lines.proofs.FormLemmas.{read_parts, read_or_not, one_read, not_unread, one_unread}
+use Rattle.csn_lines.proofs.FormLemmas.{read_parts, read_or_not, one_read, not_unread, one_unread, shown_is_read}
 use Rattle.csn_lines.proofs.MeantParts.{string_parts}
 use Rattle.csn_lines.proofs.ShownLines.{description, string_of, meant_by}
 
@@ -27,17 +25,13 @@ module _ (known : Known) (text : List ℕ) (rules : RulesV) (name : List ℕ) (r
   pub no_block_of : (t : TreeV) → HasNoBlock d t → (b : List ℕ) → length b ≤ most_bits → Strings rules name reading b t → ⊥
   no_block_of t none b few string = none b (record { means = meant_by known text rules name reading d is b t string; within = few })
 
-  -- a line that is the text of the tree of a block is that tree
-  pub read_along : (form : TreeForm) (line b : List ℕ) (t : TreeV) → form ≡ Text → line ≡ text_of Second t → IsBlockOf d t b → IsRead form t line
-  read_along form line b t in_text spelled block =
-      let P : TreeForm → Type 0 = λ f. IsRead f t line in
+  -- a line that is the text of the tree of a block, in a form, is that tree
+  pub read_along : (form : TreeForm) (line b : List ℕ) (t : TreeV) → line ≡ text_in form t → IsBlockOf d t b → IsRead form t line
+  read_along form line b t spelled block =
       let string = string_of known text rules name reading d is b t block.means in
-      subst P (sym in_text)
-      record {
-        fits = known.of_blocks.fit d b t (description known text rules name reading d is) block.means;
-        parts = string_parts rules reading (known.of_rules.labelled text rules is.has_rules) known.of_blocks.are_bits name b t string block.within;
-        spelled = spelled;
-      }
+      let fits = known.of_blocks.fit d b t (description known text rules name reading d is) block.means in
+      let parts = string_parts rules reading (known.of_rules.labelled text rules is.has_rules) known.of_blocks.are_bits name b t string block.within in
+      shown_is_read known form t line spelled fits parts
 
   missed : (t : TreeV) (path : List ℕ) (why : MisfitWhy) → IsMisfit d t path why → HasNoBlock d t
   missed t path why misfit b block = let few = block.within in known.of_misfits.no_bits d 0 0 [] t path why b misfit block.means (omega (arith, few))

@@ -36,7 +36,7 @@ use Rattle.csn_json.specs.declared.fault.JsonFault.TheVariants.{NotJson, NotTree
 use Rattle.csn_json.specs.JsonText.{JsonText, IsFaultOf as IsJsonFault}
 use Rattle.csn_json.specs.declared.form.TreeForm.{TreeForm}
 use Rattle.csn_json.specs.declared.form.TreeForm.TheVariants.{Text, Json}
-use Rattle.csn_movetext.specs.Forms.{IsShown}
+use Rattle.csn_json.specs.Forms.{IsShown}
 use Rattle.csn_command.specs.declared.command.RuleCommand.{RuleCommand}
 use Rattle.csn_lines.specs.declared.lines.TheConstants.{LINE_FEED}
 use Rattle.csn_command.specs.declared.command.RuleCommand.TheVariants.{Show, Write}

@@ -5,9 +5,7 @@ ghost use Rattle.csn_bits.specs.Line.{written};
 ghost use Rattle.csn_encode.specs.declared.misfit.Misfit.{Misfit};
 ghost use Rattle.csn_desc.specs.TreeV.{TreeV};
 ghost use Rattle.csn_encode.specs.Encoding.{IsBlockOf, IsFaultOf};
-ghost use Rattle.csn_json.specs.declared.form.TreeForm.TheVariants.{Text};
-ghost use Rattle.csn_treetext.specs.declared.version.Version.TheVariants.{Second};
-ghost use Rattle.csn_treetext.specs.Text.{text_of};
+ghost use Rattle.csn_json.specs.Forms.{text_in};
 ghost use Rattle.csn_command.specs.declared.command.RuleCommand.{RuleCommand};
 ghost use Rattle.csn_lines.specs.declared.lines.TheConstants.{MOST_INPUT};
 ghost use Rattle.csn_plan.specs.Compiled.{line_of};
@@ -22,7 +20,7 @@ use crate::whole_lines::WholeLineCommand;
 use csn_bits::Bits;
 use csn_certify::{Plan, Steps};
 use csn_desc::Tree;
-use csn_encode::{EncodeFault, Misfit, MisfitWhy, Path, encode, encode_text};
+use csn_encode::{EncodeFault, Misfit, MisfitWhy, Path, encode, encode_json, encode_text};
 use csn_json::{JsonFault, read_json};
 use csn_movetext::TreeForm;
 use csn_plan::{push_number, push_numbers};
@@ -119,25 +117,31 @@ fn answer_no_block(fault: EncodeFault, out: &mut Vec<u8>) -> Result<(), AllocErr
     }
 }
 
-/// The block that has the tree of a text, written along the text; with a counter of steps.
-fn block_along<L: Ledger>(alloc: Global, plan: &Plan, text: &[u8], blank: Blank) -> Option<Bits>
+/// The block that has the tree of a line in a form, written along the line; with a counter of steps.
+fn block_along<L: Ledger>(
+    alloc: Global,
+    plan: &Plan,
+    form: TreeForm,
+    line: &[u8],
+    blank: Blank,
+) -> Option<Bits>
     requires name { blank.name ≡ L.name }
     requires parts { blank.parts ≡ L.parts }
     requires some { 0 < blank.parts }
-    ensures { IfSome result (λ bits. (t : TreeV) × (text.now ≡ text_of Second t) × IsBlockOf plan.now t bits) }
+    ensures { IfSome result (λ bits. (t : TreeV) × (line.now ≡ text_in form t) × IsBlockOf plan.now t bits) }
 {
     let mut steps = Steps::<L>::new(blank);
-    encode_text(alloc, plan, text, &mut steps)
+    match form {
+        TreeForm::Text => encode_text(alloc, plan, line, &mut steps),
+        TreeForm::Json => encode_json(alloc, plan, line, &mut steps),
+    }
 }
 
-/// The block that has the tree of a line, where the form is written without its tree.
+/// The block that has the tree of a line in a form, written without the tree.
 fn block_of_line(alloc: Global, plan: &Plan, form: TreeForm, line: &[u8]) -> Option<Bits>
-    ensures { IfSome result (λ bits. (form ≡ Text) × ((t : TreeV) × (line.now ≡ text_of Second t) × IsBlockOf plan.now t bits)) }
+    ensures { IfSome result (λ bits. (t : TreeV) × (line.now ≡ text_in form t) × IsBlockOf plan.now t bits) }
 {
-    match form {
-        TreeForm::Text => block_along::<Brand>(alloc, plan, line, Blank::new(1)),
-        TreeForm::Json => None,
-    }
+    block_along::<Brand>(alloc, plan, form, line, Blank::new(1))
 }
 
 /// Writes the answer to a line that is no tree in JSON.

@@ -27,7 +27,7 @@ use Rattle.csn_movetext.specs.declared.fault.BlockFault.TheVariants as fault
 use Rattle.csn_movetext.specs.declared.fault.BlockFault.{BlockFault}
 use Rattle.csn_json.specs.declared.form.TreeForm.{TreeForm}
 use Rattle.csn_json.specs.declared.form.TreeForm.TheVariants.{Text, Json}
-use Rattle.csn_movetext.specs.Forms.{IsShown, text_in}
+use Rattle.csn_json.specs.Forms.{IsShown, text_in}
 use Rattle.csn_movetext.specs.Openings.{OpeningsV, opening_in, HasOpenings}
 use Rattle.csn_movetext.specs.Writing.{ready}
 use Rattle.csn_movetext.specs.Kept.{Extends}

@@ -13,7 +13,7 @@ use Rattle.csn_bits.proofs.Packing.{IsBits-append, octets_of-append}
 use Rattle.csn_bits.proofs.NumberFacts.{number_of-append, number_of-lt, length-low_bits, IsBits-low_bits, number_of-low_bits}
 use Rattle.csn_bits.proofs.Written.{written-some, tail_written-some}
 use Rattle.csn_json.specs.declared.form.TreeForm.{TreeForm}
-use Rattle.csn_movetext.specs.Forms.{octets_sign}
+use Rattle.csn_json.specs.Forms.{octets_sign}
 use Rattle.csn_movetext.specs.Writing.{WritingV, gathering}
 use Rattle.csn_movetext.specs.Kept.{KeptV, begun, sign, IsFront, Shows, Flushed}
 use Rattle.csn_movetext.proofs.Octets.{low_octet}

@@ -27,7 +27,7 @@ use Rattle.csn_json.specs.declared.form.TreeForm.{TreeForm}
 use Rattle.csn_json.specs.declared.form.TreeForm.TheVariants.{Text}
 use Rattle.csn_movetext.specs.declared.template.Piece.{Piece}
 use Rattle.csn_movetext.specs.declared.template.Template.{Template}
-use Rattle.csn_movetext.specs.Forms.{gap_after, label_text, text_in, width_text}
+use Rattle.csn_json.specs.Forms.{gap_after, label_text, text_in, width_text}
 use Rattle.csn_movetext.specs.Openings.{OpeningsV, AreOpened, AreTemplates, HasOpenings, IsMark, IsTemplate}
 use Rattle.csn_movetext.specs.Openings.{leaf_width, node_opening, number_at, opening_in, opening_of}
 use Rattle.csn_movetext.specs.Templates.{EndsIn, filled, is_later, piece_text, pieces_text, template_at}

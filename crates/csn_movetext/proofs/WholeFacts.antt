@@ -20,7 +20,7 @@ use Rattle.csn_movetext.specs.WithNodes.{with_nodes, inside, with_node}
 use Rattle.csn_json.specs.declared.form.TreeForm.{TreeForm}
 use Rattle.csn_json.specs.declared.form.TreeForm.TheVariants.{Text, Json}
 use Rattle.csn_movetext.specs.declared.template.Template.{Template}
-use Rattle.csn_movetext.specs.Forms.{gap_after, text_in}
+use Rattle.csn_json.specs.Forms.{gap_after, text_in}
 use Rattle.csn_movetext.specs.Templates.{filled, template_at}
 use Rattle.csn_movetext.specs.Openings.{OpeningsV, HasOpenings, opening_in, leaf_width}
 use Rattle.csn_movetext.specs.Laws.{MovesWriteTheirTree}

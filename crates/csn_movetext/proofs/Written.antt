@@ -39,7 +39,7 @@ use Rattle.csn_json.specs.JsonText.{row_text as json_row}
 use Rattle.csn_json.specs.Laws.{TextsAreJoined}
 use Rattle.csn_json.specs.declared.form.TreeForm.{TreeForm}
 use Rattle.csn_json.specs.declared.form.TreeForm.TheVariants.{Text, Json}
-use Rattle.csn_movetext.specs.Forms.{text_in, nothing_text, mark_text, label_text, width_text, leaf_opening, gap_after}
+use Rattle.csn_json.specs.Forms.{text_in, nothing_text, mark_text, label_text, width_text, leaf_opening, gap_after}
 use Rattle.csn_movetext.specs.WithNodes.{with_nodes, inside, with_node}
 use Rattle.csn_movetext.specs.Openings.{AreOpenings, number_at, number_text, told_width, leaf_width, node_opening}
 use Rattle.csn_movetext.specs.Writing.{WritingV, ready, gathering, has_width, bits_text, took, part_left, closed, left_node, written_by}

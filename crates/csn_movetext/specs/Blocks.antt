@@ -20,7 +20,7 @@ use Rattle.csn_movetext.specs.declared.block.BlockText.TheInside.{Inside}
 use Rattle.csn_json.specs.declared.form.TreeForm.{TreeForm}
 use Rattle.csn_movetext.specs.declared.fault.BlockFault.{BlockFault}
 use Rattle.csn_movetext.specs.declared.fault.BlockFault.TheVariants as fault
-use Rattle.csn_movetext.specs.Forms.{IsShown}
+use Rattle.csn_json.specs.Forms.{IsShown}
 use Rattle.csn_movetext.specs.Openings.{OpeningsV, HasOpenings}
 use Rattle.csn_movetext.specs.Track.{TrackV, Writes}
 

@@ -6,7 +6,7 @@ use Rattle.csn_bits.specs.Octets.{IsBits, octets_of}
 use Rattle.csn_bits.specs.Numbers.{number_of}
 use Rattle.csn_json.specs.declared.form.TreeForm.{TreeForm}
 use Rattle.csn_movetext.specs.declared.writing.Writing.{Writing}
-use Rattle.csn_movetext.specs.Forms.{octets_sign}
+use Rattle.csn_json.specs.Forms.{octets_sign}
 use Rattle.csn_movetext.specs.Writing.{WritingV}
 
 -- what is written ahead of a leaf that has more than 64 bits, where these are its first ones

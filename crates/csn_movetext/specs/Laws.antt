@@ -13,7 +13,7 @@ use Rattle.csn_desc.specs.Means.{NMeans}
 use Rattle.csn_desc.specs.Walks.{Walk}
 use Rattle.csn_treetext.specs.Fits.{Fits}
 use Rattle.csn_json.specs.declared.form.TreeForm.{TreeForm}
-use Rattle.csn_movetext.specs.Forms.{IsShown, gap_after, text_in}
+use Rattle.csn_json.specs.Forms.{IsShown, gap_after, text_in}
 use Rattle.csn_movetext.specs.WithNodes.{with_nodes}
 use Rattle.csn_movetext.specs.Openings.{AreOpenings, node_opening}
 use Rattle.csn_movetext.specs.Writing.{ready, written_by}

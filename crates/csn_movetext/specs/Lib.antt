@@ -1,4 +1,3 @@
-pub mod Forms
 pub mod WithNodes
 pub mod Templates
 pub mod Openings

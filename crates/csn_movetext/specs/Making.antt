@@ -8,7 +8,7 @@ use Rattle.csn_desc.specs.Values.{Values}
 use Rattle.csn_desc.specs.Means.{NMeans, NodeMeans, PartsMean}
 use Rattle.csn_json.specs.declared.form.TreeForm.TheVariants.{Text}
 use Rattle.csn_movetext.specs.declared.template.Template.{Template}
-use Rattle.csn_movetext.specs.Forms.{text_in}
+use Rattle.csn_json.specs.Forms.{text_in}
 use Rattle.csn_movetext.specs.Openings.{OpeningsV, opening_in, AreTemplates, node_opening, opening_of, number_at}
 use Rattle.csn_movetext.specs.Templates.{filled, template_at, EndsIn}
 

@@ -14,7 +14,7 @@ use Rattle.csn_treetext.specs.declared.bounds.TheConstants.{MOST_SHORT}
 use Rattle.csn_json.specs.declared.form.TreeForm.{TreeForm}
 use Rattle.csn_json.specs.declared.form.TreeForm.TheVariants.{Text, Json}
 use Rattle.csn_movetext.specs.declared.template.Template.{Template}
-use Rattle.csn_movetext.specs.Forms.{leaf_opening, label_text, mark_text, nothing_text, text_in}
+use Rattle.csn_json.specs.Forms.{leaf_opening, label_text, mark_text, nothing_text, text_in}
 use Rattle.csn_movetext.specs.Templates.{EndsIn, filled, template_at}
 
 -- the number of an alternative, which stands before what it writes

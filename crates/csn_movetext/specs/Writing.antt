@@ -14,7 +14,7 @@ use Rattle.csn_treetext.specs.declared.version.Version.TheVariants.{Second}
 use Rattle.csn_treetext.specs.Text.{leaf_text}
 use Rattle.csn_json.specs.declared.form.TreeForm.{TreeForm}
 use Rattle.csn_json.specs.declared.form.TreeForm.TheVariants.{Text, Json}
-use Rattle.csn_movetext.specs.Forms.{gap_after}
+use Rattle.csn_json.specs.Forms.{gap_after}
 use Rattle.csn_movetext.specs.Openings.{leaf_width, opening_in}
 
 -- the text so far; whether the last move left a node; and the bits of the leaf that is open

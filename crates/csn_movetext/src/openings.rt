@@ -1,6 +1,6 @@
 ghost use Rattle.std.specs.Prelude.{◌≡◌, ◌<◌, ◌++◌, ◌∷◌, [], length, slice_get, Some, OnOk, IfOk, option_copied};
 ghost use Rattle.csn_desc.specs.Label.{IsLabel};
-ghost use Rattle.csn_movetext.specs.Forms.{label_text, leaf_opening, mark_text, nothing_text};
+ghost use Rattle.csn_json.specs.Forms.{label_text, leaf_opening, mark_text, nothing_text};
 ghost use Rattle.csn_movetext.specs.Openings.{AreOpened, AreTemplates, HasLabel, HasOpenings, node_opening, opening_in, opening_of};
 ghost use Rattle.csn_movetext.specs.Templates.{template_at};
 

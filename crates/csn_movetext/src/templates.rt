@@ -2,7 +2,7 @@
 
 ghost use Rattle.std.specs.Prelude.{◌≡◌, ℕ, ◌<◌, ◌≤◌, length, slice_get, Some, None, IsTrue, IfOk, IfSome};
 ghost use Rattle.csn_desc.specs.Nodes.{parts_of};
-ghost use Rattle.csn_movetext.specs.Forms.{gap_after};
+ghost use Rattle.csn_json.specs.Forms.{gap_after};
 ghost use Rattle.csn_movetext.specs.Openings.{AreOpened, AreTemplates, IsTemplate};
 ghost use Rattle.csn_movetext.specs.Templates.{is_later, template_at};
 ghost use Rattle.csn_movetext.specs.Making.{EndsAt, HasPart, WritesLeaf, WritesNode, WritesParts};

@@ -1,5 +1,5 @@
 ghost use Rattle.std.specs.Prelude.{◌≡◌, ◌≤◌};
-ghost use Rattle.csn_movetext.specs.Forms.{gap};
+ghost use Rattle.csn_json.specs.Forms.{gap};
 ghost use Rattle.csn_movetext.specs.Openings.{leaf_width};
 ghost use Rattle.csn_movetext.specs.Told.{IsTold};
 
@@ -33,7 +33,7 @@ impl Writing {
     ghost use Rattle.csn_bits.specs.Octets.{IsBits};
     ghost use Rattle.csn_bits.specs.Numbers.{low_bits, number_of};
     ghost use Rattle.csn_bits.specs.Line.{written};
-    ghost use Rattle.csn_movetext.specs.Forms.{octets_sign, gap_after};
+    ghost use Rattle.csn_json.specs.Forms.{octets_sign, gap_after};
     ghost use Rattle.csn_movetext.specs.Templates.{filled};
     ghost use Rattle.csn_movetext.specs.Writing.{WritingV, bits_text, entered, has_width, shut, passed, part_left, closed, left_node, gathering};
     ghost use Rattle.csn_movetext.specs.Kept.{KeptV, kept_of, Shows, Flushed, sign, Extends};

@@ -4,7 +4,7 @@ use crate::texts::plan_of;
 use csn_bits::{Bits, MOST_LINE};
 use csn_certify::{Plan, Steps};
 use csn_desc::Tree;
-use csn_encode::{EncodeFault, Misfit, MisfitWhy, encode, encode_text};
+use csn_encode::{EncodeFault, Misfit, MisfitWhy, encode, encode_json, encode_text};
 use csn_treetext::read_tree;
 use std::alloc::Global;
 use std::marker::Brand;
@@ -97,6 +97,21 @@ fn writes<L: Ledger, R: Abort>(
     Ok(())
 }
 
+// JSON is written where it is spelled as `json` does, and left alone with a space in it
+fn writes_json<L: Ledger, R: Abort>(
+    rt: &R,
+    alloc: Global,
+    plan: &Plan,
+    steps: &mut Steps<L>,
+) -> Result<(), Fail> {
+    let json = b"[{\"label\":\"A\",\"tree\":\"A0/3\"},null,{\"label\":\"B\",\"tree\":\"50/4\"}]";
+    let spaced = b"[{\"label\":\"A\",\"tree\":\"A0/3\"}, null,{\"label\":\"B\",\"tree\":\"50/4\"}]";
+    let whole = is_line(alloc, encode_json(alloc, plan, json, steps), b"A5")?;
+    let none = encode_json(alloc, plan, spaced, steps).is_none();
+    assert_eq!(rt; (whole, none), (true, true));
+    Ok(())
+}
+
 // the tree of the text, whose second field is a bit too wide, misses there
 fn misses<L: Ledger, R: Abort>(
     rt: &R,
@@ -123,6 +138,7 @@ fn writes_or_misses<L: Ledger, R: Abort>(rt: &R, alloc: Global, blank: Blank) ->
     let mut steps = Steps::<L>::new(blank);
     let plan = plan_of(alloc, FIELDS)?;
     writes(rt, alloc, &plan, &mut steps)?;
+    writes_json(rt, alloc, &plan, &mut steps)?;
     misses(rt, alloc, &plan, b"[<A>=3'5 . <B>=5'11]", &mut steps)
 }
 

@@ -8,13 +8,13 @@ use Rattle.csn_lines.proofs.write.write_line.Goals as goal
 pub returns-clause-ok : goal.returns-clause-ok
 returns-clause-ok c =
     let found = c.in-Some.ensures in
-    let block = found.1.2 in (
+    let block = found.2 in (
       codes "ok " ++ written c.in-Some.bits,
       c.in_ok-answer_block.ensures.ok,
       λ file rules name reading is.
-          writes_block found.1.0 c.in-Some.bits
+          writes_block found.0 c.in-Some.bits
           (read_along c.known.ensures file rules name reading _ is c.args.form c.args.line.now c.in-Some.bits
-          found.1.0 found.0 found.1.1 block) block.within
+          found.0 found.1 block) block.within
           (string_of c.known.ensures file rules name reading _ is _ _ block.means) refl,
       refl,
     )

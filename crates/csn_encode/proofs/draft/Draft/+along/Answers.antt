@@ -285,32 +285,35 @@ choice_text-write_text-requires g t c κs within = (
 
 pub choice_text-returns : goal.choice_text-returns
 choice_text-returns g t c =
-    on_some c.write_text.result
-    (λ rest h. (
+    let h = c.in_ok-rest.ensures in
+    on_some c.behind_closing.result
+    (λ rest closed. (
       alt c.in_ok-number.number h.0,
-      alternative_begins c.in_ok-number.number h.0 _ _ _
-          c.in_ok-number.ensures.begins h.1,
+      alternative_begins c.args.ground.form c.texts_are_joined.ensures c.in_ok-number.number h.0 _ _ _ _
+          c.in_ok-number.ensures.begins h.1 closed,
       λ v s. choice_adds c.args.ground.plan.now c.in_ok-number.number h.0 refl
           c.get.ensures
           (h.2 v (stands_in_window c.args.ground.plan.now
           (alternative_stands c.args.ground.plan.now c.in_ok-number.number c.get.ensures s))),
-    )) c.write_text.ensures
+    )) c.behind_closing.ensures
 
 pub named_text-returns : goal.named_text-returns
 named_text-returns g t c =
-    on_some c.write_text.result
-    (λ rest h. (
+    let h = c.in_ok-rest.ensures in
+    on_some c.behind_closing.result
+    (λ rest closed. (
       named c.bytes.result.now h.0,
-      label_begins c.bytes.result.now h.0 _ _ _ c.in_ok-tail.ensures h.1,
+      label_begins c.args.ground.form c.texts_are_joined.ensures c.bytes.result.now c.bytes.ensures.label h.0 _ _ _ _
+          c.in_ok-tail.ensures h.1 closed,
       λ v s. named_adds c.args.ground.plan.now c.bytes.result.now h.0 refl c.bytes.ensures.value
           (h.2 v (stands_in_window c.args.ground.plan.now s)),
-    )) c.write_text.ensures
+    )) c.behind_closing.ensures
 
 pub many_text-returns : goal.many_text-returns
 many_text-returns g t c =
     let h = c.in_ok-row.ensures in (
       row (trees_of h.0),
-      row_begins h.0 _ _ _ c.in_ok-behind.ensures h.2,
+      row_begins c.args.ground.form c.texts_are_joined.ensures h.0 _ _ _ c.in_ok-behind.ensures h.2,
       λ v i at s. many_adds
           c.args.ground.plan.now h.0 refl (λ o b u m. c.turns_have_bits.ensures.free c.args.ground.plan.now 12 i
           c.args.part o v b u s.ready.description s.ready.certified at m) (h.3 v s),
@@ -320,7 +323,7 @@ pub times_text-returns : goal.times_text-returns
 times_text-returns g t c =
     let h = c.in_ok-row.ensures in (
       row (trees_of h.0),
-      row_begins h.0 _ _ _ c.in_ok-behind.ensures h.2,
+      row_begins c.args.ground.form c.texts_are_joined.ensures h.0 _ _ _ c.in_ok-behind.ensures h.2,
       λ v count s counted. times_adds
           c.args.ground.plan.now h.0 c.args.wanted refl counted (h.1 ∙ c.if-row-wanted.false) (h.3 v s),
     )
@@ -329,7 +332,7 @@ pub sequence_text-returns : goal.sequence_text-returns
 sequence_text-returns g t c =
     let h = c.in_ok-row.ensures in (
       row (trees_of h.0),
-      row_begins h.0 _ _ _ c.in_ok-behind.ensures h.2,
+      row_begins c.args.ground.form c.texts_are_joined.ensures h.0 _ _ _ c.in_ok-behind.ensures h.2,
       λ v s. seq_adds c.args.ground.plan.now
           h.0 refl (h.1 ∙ c.if-row-from.false ∙ c.from.ensures ∙ c.len.ensures.len) (h.3 v s),
     )
@@ -338,7 +341,7 @@ pub truncation_text-returns : goal.truncation_text-returns
 truncation_text-returns g t c =
     let h = c.in_ok-row.ensures in (
       row (trees_of h.0),
-      row_begins h.0 _ _ _ c.in_ok-behind.ensures h.2,
+      row_begins c.args.ground.form c.texts_are_joined.ensures h.0 _ _ _ c.in_ok-behind.ensures h.2,
       λ v s. trunc_adds c.args.ground.plan.now
           h.0 refl (omega (arith, h.1, c.if-row.false)) (h.3 v s),
     )
@@ -390,37 +393,37 @@ truncation_text-parts_text-requires g t c κs within = (omega (arith, c.decrease
 
 pub parts_text-loop-part-init : goal.parts_text-loop-part-init
 parts_text-loop-part-init g t c =
-    parts_along c.args.ground.plan.now c.args.parts.now c.args.round c.args.self.now c.args.text.now
+    parts_along c.args.ground.plan.now c.args.ground.form c.args.parts.now c.args.round c.args.self.now c.args.text.now
 
 pub parts_text-write_text-requires : goal.parts_text-write_text-requires
 parts_text-write_text-requires g t c κs within =
-    let n = part_next c.args.ground.plan.now c.loop-part.invariant c.get-part.ensures c.requires.0 c.requires.1 in
+    let n = part_next c.args.ground.plan.now c.args.ground.form c.loop-part.invariant c.get-part.ensures c.requires.0 c.requires.1 in
     (omega (arith, c.decreases, c.requires.1.ready.few), (within, (n.0, n.1)))
 
 pub parts_text-keep-requires-clause-part : goal.parts_text-keep-requires-clause-part
 parts_text-keep-requires-clause-part g t c =
-    let n = part_next c.args.ground.plan.now c.loop-part.invariant c.get-part.ensures c.requires.0 c.requires.1 in
+    let n = part_next c.args.ground.plan.now c.args.ground.form c.loop-part.invariant c.get-part.ensures c.requires.0 c.requires.1 in
     part_within c.args.ground.plan.now n.3.is_formed
 
 pub parts_text-keep-requires-clause-from : goal.parts_text-keep-requires-clause-from
 parts_text-keep-requires-clause-from g t c =
-    let n = part_next c.args.ground.plan.now c.loop-part.invariant c.get-part.ensures c.requires.0 c.requires.1 in
+    let n = part_next c.args.ground.plan.now c.args.ground.form c.loop-part.invariant c.get-part.ensures c.requires.0 c.requires.1 in
     part_behind c.args.ground.plan.now c.len-from.result c.len-from.ensures.count (c.in_ok-rest.ensures.2 n.0 n.1)
 
 pub parts_text-keep-requires-clause-few : goal.parts_text-keep-requires-clause-few
 parts_text-keep-requires-clause-few g t c =
-    let n = part_next c.args.ground.plan.now c.loop-part.invariant c.get-part.ensures c.requires.0 c.requires.1 in
+    let n = part_next c.args.ground.plan.now c.args.ground.form c.loop-part.invariant c.get-part.ensures c.requires.0 c.requires.1 in
     λ counted. part_few c.args.ground.plan.now c.len-from.result c.len-from.ensures.count n.2
     (c.in_ok-rest.ensures.2 n.0 n.1) counted
 
 pub parts_text-keep-requires-clause-room : goal.parts_text-keep-requires-clause-room
 parts_text-keep-requires-clause-room g t c =
-    let n = part_next c.args.ground.plan.now c.loop-part.invariant c.get-part.ensures c.requires.0 c.requires.1 in
+    let n = part_next c.args.ground.plan.now c.args.ground.form c.loop-part.invariant c.get-part.ensures c.requires.0 c.requires.1 in
     λ counted. part_room c.args.ground.plan.now n.3 (c.in_ok-rest.ensures.2 n.0 n.1) counted
 
 pub parts_text-loop-part-preserved-then-len-from : goal.parts_text-loop-part-preserved-then-len-from
 parts_text-loop-part-preserved-then-len-from g t c =
-    part_more c.args.ground.plan.now c.in_ok-rest.ensures.0 c.len-from.result c.len-from.ensures.count
+    part_more c.args.ground.plan.now c.args.ground.form c.in_ok-rest.ensures.0 c.len-from.result c.len-from.ensures.count
     c.loop-part.invariant c.get-part.ensures c.in_ok-next_tree.ensures.first c.in_ok-next_tree.ensures.later
     c.in_ok-rest.ensures.1 c.in_ok-rest.ensures.2 c.keep.ensures.bits c.keep.ensures.path c.keep.ensures.numbers
     (inl (
@@ -431,7 +434,7 @@ parts_text-loop-part-preserved-then-len-from g t c =
 
 pub parts_text-loop-part-preserved : goal.parts_text-loop-part-preserved
 parts_text-loop-part-preserved g t c =
-    part_more c.args.ground.plan.now c.in_ok-rest.ensures.0 c.len-from.result c.len-from.ensures.count
+    part_more c.args.ground.plan.now c.args.ground.form c.in_ok-rest.ensures.0 c.len-from.result c.len-from.ensures.count
     c.loop-part.invariant c.get-part.ensures c.in_ok-next_tree.ensures.first c.in_ok-next_tree.ensures.later
     c.in_ok-rest.ensures.1 c.in_ok-rest.ensures.2 c.keep.ensures.bits c.keep.ensures.path c.keep.ensures.numbers
     (inr (
@@ -442,27 +445,27 @@ parts_text-loop-part-preserved g t c =
 
 pub parts_text-returns : goal.parts_text-returns
 parts_text-returns g t c =
-    parts_end c.args.ground.plan.now c.loop-part.invariant c.in_ok-rest-2.ensures refl refl
+    parts_end c.args.ground.plan.now c.args.ground.form c.loop-part.invariant c.in_ok-rest-2.ensures refl refl
     (c.truncate.ensures.items ∙ ap (λ n. take n c.loop-part.self.numbers.items) c.len-seen.ensures.value)
 
 pub turns_text-loop-self-init : goal.turns_text-loop-self-init
 turns_text-loop-self-init g t c =
-    turns_along c.args.ground.plan.now c.args.part c.args.round c.args.self.now c.args.text.now
+    turns_along c.args.ground.plan.now c.args.ground.form c.args.part c.args.round c.args.self.now c.args.text.now
 
 pub turns_text-write_text-requires : goal.turns_text-write_text-requires
 turns_text-write_text-requires g t c κs within = (
   omega (arith, c.decreases, c.requires.1.ready.few),
-  (within, (c.requires.0, turn_next c.args.ground.plan.now c.loop-self.invariant c.requires.0 c.requires.1)),
+  (within, (c.requires.0, turn_next c.args.ground.plan.now c.args.ground.form c.loop-self.invariant c.requires.0 c.requires.1)),
 )
 
 pub turns_text-loop-self-preserved : goal.turns_text-loop-self-preserved
 turns_text-loop-self-preserved g t c =
-    turn_more c.args.ground.plan.now c.in_ok-rest.ensures.0 c.loop-self.invariant c.in_ok-next_tree.ensures.first
+    turn_more c.args.ground.plan.now c.args.ground.form c.in_ok-rest.ensures.0 c.loop-self.invariant c.in_ok-next_tree.ensures.first
     c.in_ok-next_tree.ensures.later c.in_ok-rest.ensures.1 c.in_ok-rest.ensures.2
 
 pub turns_text-returns : goal.turns_text-returns
 turns_text-returns g t c =
-    turns_end c.args.ground.plan.now c.loop-self.invariant c.in_ok-rest-2.ensures
+    turns_end c.args.ground.plan.now c.args.ground.form c.loop-self.invariant c.in_ok-rest-2.ensures
 
 pub parts_text-get-part-requires : goal.parts_text-get-part-requires
 parts_text-get-part-requires g t c = omega (arith, c.loop-part-test.ensures refl, c.from.ensures, c.len.ensures.len)

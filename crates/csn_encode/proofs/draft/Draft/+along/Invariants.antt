@@ -3,13 +3,13 @@ use Rattle.csn_encode.proofs.Texts.{PartsAlong, TurnsAlong}
 use Rattle.csn_encode.proofs.draft.Draft.+along.Given as goal
 
 abbrev pub invariant-parts_text-loop-part : goal.invariant-parts_text-loop-part
-invariant-parts_text-loop-part g l = PartsAlong l.ground.plan.now l.parts l.round l.fn.self l.text l.count l.kept l.rest l.self
+invariant-parts_text-loop-part g l = PartsAlong l.ground.plan.now l.ground.form l.parts l.round l.fn.self l.text l.count l.kept l.rest l.self
 
 abbrev pub decreases-parts_text-loop-part : goal.decreases-parts_text-loop-part
 decreases-parts_text-loop-part g l = length l.parts - l.count
 
 abbrev pub invariant-turns_text-loop-self : goal.invariant-turns_text-loop-self
-invariant-turns_text-loop-self g l = TurnsAlong l.ground.plan.now l.part l.round l.fn.self l.text l.count l.rest l.self
+invariant-turns_text-loop-self g l = TurnsAlong l.ground.plan.now l.ground.form l.part l.round l.fn.self l.text l.count l.rest l.self
 
 abbrev pub decreases-turns_text-loop-self : goal.decreases-turns_text-loop-self
 decreases-turns_text-loop-self g l = l.most - l.count

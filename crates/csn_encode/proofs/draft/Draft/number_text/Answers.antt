@@ -4,16 +4,15 @@ use Rattle.csn_bits.proofs.NumberFacts.{length-low_bits}
 use Rattle.csn_desc.specs.TreeV.{bits}
 use Rattle.csn_encode.proofs.NodeKinds.{field_added}
 use Rattle.csn_encode.proofs.Texts.{short_begins, short_added}
-use Rattle.csn_encode.proofs.draft.Draft.field_text.Goals as goal
+use Rattle.csn_encode.proofs.draft.Draft.number_text.Goals as goal
 
 pub returns : goal.returns
 returns c =
     let leaf = low_bits c.args.wanted c.in_ok-value.value in
-    let none = c.if-wanted-eq0.false in
     let room = c.if-wanted-len.false in (
       bits leaf,
       short_begins c.args.wanted c.in_ok-value.value c.in_ok-width.width _ c.in_ok-width.value_text.now
-          c.in_ok-behind.field-0.now _ (omega (arith, none)) (omega (arith, c.if-wanted-gt-MOST_ADDED.false))
+          c.in_ok-behind.field-0.now _ (omega (arith, c.requires.some)) (omega (arith, c.requires.few))
           (let zero = c.if-value-wanted-ne0.false in omega (arith, zero)) (let same = c.if-width-from.false in omega (arith, same, c.from.ensures))
           c.in_ok-width.ensures c.in_ok-behind.ensures c.in_ok-value.ensures,
       λ d v unit count n counted all. field_added d leaf n c.args.wanted counted all (length-low_bits c.args.wanted c.in_ok-value.value) refl

@@ -2,7 +2,7 @@ use Rattle.std.proofs.Common.{[], List, ℕ, sym, subst}
 use Rattle.csn_encode.specs.Encoding.{IsBlockOf}
 use Rattle.csn_encode.proofs.Blocks.{root_stands, root_adds}
 use Rattle.csn_encode.proofs.Texts.{on_some, whole_text}
-use Rattle.csn_encode.proofs.encoding.encode_text.Goals as goal
+use Rattle.csn_encode.proofs.encoding.encode_along.Goals as goal
 
 pub write_text-requires : goal.write_text-requires
 write_text-requires g c = (
