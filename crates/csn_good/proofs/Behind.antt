@@ -13,7 +13,7 @@ use Rattle.csn_good.proofs.Making.{take_part, take_whole, take_size, one_more, s
 
 -- ---- one pattern
 
-cut_joins : (first rest : PatternV) (room : ℕ) → length first.marks + room ≡ 12
+pub cut_joins : (first rest : PatternV) (room : ℕ) → length first.marks + room ≡ 12
     → shortened (first.marks ++ (cut_to room rest).marks) (cut_to room rest).whole ≡ shortened
     (first.marks ++ rest.marks) rest.whole
 cut_joins first rest room fits = by_test (nat_le (length rest.marks) room) refl

@@ -12,6 +12,7 @@ pub mod Meeting
 pub mod Conflicting
 pub mod Making
 pub mod Behind
+pub mod Numbered
 pub mod ListsMeeting
 pub mod Covered
 pub mod Faulting

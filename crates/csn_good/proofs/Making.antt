@@ -1,96 +1,19 @@
--- Patterns that are made: their numbers, two of them one after the other, and those of parts one after another.
+-- Patterns that are made: two of them one after the other, and those of parts one after another.
 use Rattle.std.proofs.Common.{◌≡◌, ℕ, zero, suc, ◌+◌, ◌*◌, ◌-◌, ◌%◌, ◌<◌, ◌≤◌, Bool, true, false, if◌then◌else◌, List}
 use Rattle.std.proofs.Common.{[], ◌∷◌, ◌++◌, length, take, drop, inl, inr, refl, sym, ◌∙◌, ap, subst, arith, Option}
-use Rattle.std.proofs.Common.{Some, None, slice_get, nat_eq, append_assoc, length-append}
-use Rattle.std.specs.Prelude.{◌⊎◌, ◌↔◌, IsTrue, Contains, nat_le, ◌==◌, ◌&&◌, is_some, IfSome}
-use Rattle.std.specs.List.{list_any}
+use Rattle.std.proofs.Common.{Some, None, slice_get, length-append}
+use Rattle.std.specs.Prelude.{◌⊎◌, ◌↔◌, IsTrue, Contains, nat_le, ◌&&◌, is_some, IfSome}
 use Rattle.std.proofs.lemmas.Bool.Decides.{nat_tests}
 use Rattle.std.proofs.lemmas.List.Elements.{Contains-append_left, Contains-append_right, Contains-append_cases}
 use Rattle.csn_cert.specs.declared.pattern.Mark.{Mark}
-use Rattle.csn_cert.specs.declared.pattern.Mark.TheVariants.{Zero, One, Any}
 use Rattle.csn_cert.specs.PatternV.{PatternV}
 use Rattle.csn_cert.specs.CertificateV.{NodeV, PositionV}
 use Rattle.csn_good.specs.ClaimedSets.{patterns_at, patterns_of}
 use Rattle.csn_good.specs.Patterns.{shortened, PartsPatterns, TimesPatterns, parts_none, parts_cut, parts_whole, times_none, times_cut, times_whole}
 use Rattle.csn_good.specs.Behind.{JoinsOne}
-use Rattle.csn_good.specs.Made.{digit_of, marks_number, end_number, pattern_number, MadeAt, AreMade, FirstMakes, makes_cut, makes_whole, SomeMakes}
-use Rattle.indexmap.specs.IndexSet.{insert_key}
+use Rattle.csn_good.specs.Made.{MadeAt, AreMade, FirstMakes, makes_cut, makes_whole, SomeMakes}
 use Rattle.std.proofs.lemmas.Option.{slice_get_within}
-use Rattle.csn_good.proofs.Denoting.{found, any_true}
-use Rattle.csn_good.proofs.EndsTold.{drop_part}
 use Rattle.csn_good.proofs.Conflicting.{item_at}
-
--- ---- numbers
-
-digit_low : (mark : Mark) → (1 ≤ digit_of mark) × (digit_of mark ≤ 3)
-digit_low Zero = (omega arith, omega arith)
-digit_low One = (omega arith, omega arith)
-digit_low Any = (omega arith, omega arith)
-
--- the mark of a digit
-abbrev mark_for : ℕ → Mark
-mark_for digit = if digit == 1 then Zero else (if digit == 2 then One else Any)
-
-digit_back : (mark : Mark) → mark_for (digit_of mark) ≡ mark
-digit_back Zero = refl
-digit_back One = refl
-digit_back Any = refl
-
-digits_same : (a b : Mark) → digit_of a ≡ digit_of b → a ≡ b
-digits_same a b same = sym (digit_back a) ∙ ap mark_for same ∙ digit_back b
-
-marks_same : (left right : List Mark) → marks_number left ≡ marks_number right → left ≡ right
-marks_same [] [] same = refl
-marks_same [] (b ∷ right) same = let low = digit_low b in absurd (omega arith)
-marks_same (a ∷ left) [] same = let low = digit_low a in absurd (omega arith)
-marks_same (a ∷ left) (b ∷ right) same =
-    let low_a = digit_low a in
-    let low_b = digit_low b in
-    let digits : digit_of a ≡ digit_of b = omega arith in
-    let others : marks_number left ≡ marks_number right = omega arith in
-    let first = digits_same a b digits in
-    let later = marks_same left right others in
-    cc
-
-ends_same : (left right : Bool) (x y : ℕ) → 2 * x + end_number left ≡ 2 * y + end_number right → (x ≡ y) × (left ≡ right)
-ends_same true true x y same = (omega arith, refl)
-ends_same true false x y same = absurd (omega arith)
-ends_same false true x y same = absurd (omega arith)
-ends_same false false x y same = (omega arith, refl)
-
-pub patterns_same : (p q : PatternV) → pattern_number p ≡ pattern_number q → p ≡ q
-patterns_same p q same =
-    let both = ends_same p.whole q.whole (marks_number p.marks) (marks_number q.marks) same in
-    let marks = marks_same p.marks q.marks both.0 in
-    ap (λ m. record { marks = m; whole = p.whole }) marks ∙ ap (λ w. record { marks = q.marks; whole = w }) both.1
-
-abbrev most_number : ℕ → ℕ
-most_number zero = 0
-most_number (suc n) = 3 * most_number n + 3
-
-number_low : (marks : List Mark) (n : ℕ) → length marks ≤ n → marks_number marks ≤ most_number n
-number_low [] n few = omega arith
-number_low (mark ∷ marks) zero few = absurd (omega arith)
-number_low (mark ∷ marks) (suc n) few = let low = digit_low mark in let later = number_low marks n (omega arith) in omega arith
-
-dropped : (marks : List Mark) (k n : ℕ) → length marks ≤ n → length (drop k marks) ≤ n
-dropped marks zero n few = few
-dropped [] (suc k) n few = few
-dropped (mark ∷ marks) (suc k) n few = dropped marks k n (omega arith)
-
-pub number_small : (marks : List Mark) (k number : ℕ) → length marks ≤ 12 → number ≡ marks_number (drop k marks) → number ≤ 797160
-number_small marks k number few is = let low = number_low (drop k marks) 12 (dropped marks k 12 few) in omega (arith, low, is)
-
-pub digit_small : (mark : Mark) → digit_of mark ≤ 3
-digit_small mark = (digit_low mark).1
-
-pub number_more : (marks : List Mark) (k : ℕ) (mark : Mark) → 0 < k → slice_get marks (k - 1) ≡ Some mark
-    → 3 * marks_number (drop k marks) + digit_of mark ≡ marks_number (drop (k - 1) marks)
-number_more marks k mark some at =
-    let same = drop_part marks (k - 1) mark at in
-    let next : k - 1 + 1 ≡ k = omega arith in
-    let P : ℕ → Type 0 = λ n. drop (k - 1) marks ≡ mark ∷ drop n marks in
-    sym (ap marks_number (subst P next same))
 
 -- ---- sets of patterns
 
@@ -107,24 +30,6 @@ one_more xs x p = (
     only : {X : Type 0} (x p : X) → Contains (x ∷ []) p → p ≡ x
     only x p (zero, less, is) = sym is
     only x p (suc k, less, is) = absurd (omega arith)
-
-pub number_known : (n : ℕ) (numbers : List ℕ) (number : ℕ)
-    → IsTrue (list_any (λ m. nat_eq n m) (insert_key nat_eq numbers number))
-    → IsTrue (list_any (λ m. nat_eq n m) numbers) ⊎ (n ≡ number)
-number_known n numbers number holds = known (list_any (nat_eq number) numbers) holds
-  where
-    equal : (x : ℕ) → nat_eq n x ≡ true → n ≡ x
-    equal x test = grind (arith, nat_tests)
-
-    known : (test : Bool) → IsTrue (list_any (λ m. nat_eq n m) (if test then numbers else numbers ++ number ∷ []))
-        → IsTrue (list_any (λ m. nat_eq n m) numbers) ⊎ (n ≡ number)
-    known true h = inl h
-    known false h =
-        let f = found (λ m. nat_eq n m) (numbers ++ number ∷ []) h in
-        elim ((one_more numbers number f.item).0 f.there) [
-          | inl there ↦ inl (any_true (λ m. nat_eq n m) numbers f.item there f.passes)
-          | inr last ↦ inr (equal f.item f.passes ∙ last)
-        ]
 
 -- ---- lists
 
@@ -149,29 +54,6 @@ take_size (x ∷ xs) (suc k) few = ap suc (take_size xs k (omega arith))
 
 -- ---- two patterns one after the other
 
-take_more : {X : Type 0} (n : ℕ) (zs : List X) (y : X) → length (take n zs) < n → take n zs ++ y ∷ [] ≡ take n (zs ++ y ∷ [])
-take_more zero zs y few = absurd (omega arith)
-take_more (suc n) [] y few = ap (λ l. y ∷ l) (sym (take_whole [] n (omega arith)))
-take_more (suc n) (z ∷ zs) y few = ap (λ l. z ∷ l) (take_more n zs y (omega arith))
-
-take_full : {X : Type 0} (n : ℕ) (zs : List X) (y : X) → n ≤ length (take n zs) → take n zs ≡ take n (zs ++ y ∷ [])
-take_full zero zs y full = refl
-take_full (suc n) [] y full = absurd (omega arith)
-take_full (suc n) (z ∷ zs) y full = ap (λ l. z ∷ l) (take_full n zs y (omega arith))
-
-one_behind : {X : Type 0} (xs ys : List X) (k : ℕ) (y : X) → slice_get ys k ≡ Some y → xs ++ take (k + 1) ys ≡ (xs ++ take k ys) ++ y ∷ []
-one_behind xs ys k y at = ap (λ l. xs ++ l) (take_part ys k y at) ∙ sym (append_assoc xs (take k ys) (y ∷ []))
-
-pub join_on : {X : Type 0} (xs ys : List X) (k : ℕ) (y : X)
-    → slice_get ys k ≡ Some y → length (take 12 (xs ++ take k ys)) < 12
-    → take 12 (xs ++ take k ys) ++ y ∷ [] ≡ take 12 (xs ++ take (k + 1) ys)
-join_on xs ys k y at few = take_more 12 (xs ++ take k ys) y few ∙ ap (λ l. take 12 l) (sym (one_behind xs ys k y at))
-
-pub join_full : {X : Type 0} (xs ys : List X) (k : ℕ) (y : X)
-    → slice_get ys k ≡ Some y → 12 ≤ length (take 12 (xs ++ take k ys))
-    → take 12 (xs ++ take k ys) ≡ take 12 (xs ++ take (k + 1) ys)
-join_full xs ys k y at full = take_full 12 (xs ++ take k ys) y full ∙ ap (λ l. take 12 l) (sym (one_behind xs ys k y at))
-
 pub shorter : (marks : List Mark) (end test : Bool) → nat_le (length marks) 12 ≡ test → (both : PatternV)
     → both.marks ≡ take 12 marks → both.whole ≡ (end && test) → both ≡ shortened marks end
 shorter marks end true test both is whole =
@@ -190,15 +72,6 @@ shorter marks end false test both is whole =
     never : (b : Bool) → (b && false) ≡ false
     never true = refl
     never false = refl
-
-pub join_done : (first rest : PatternV) (both : PatternV) (k : ℕ) (few : Bool)
-    → length rest.marks ≤ k → both.marks ≡ take 12 (first.marks ++ take k rest.marks)
-    → both.whole ≡ (rest.whole && few) → few ≡ nat_le (length first.marks + length rest.marks) 12
-    → both ≡ shortened (first.marks ++ rest.marks) rest.whole
-join_done first rest both k few long is whole test =
-    let size = length-append first.marks rest.marks in
-    let same : nat_le (length (first.marks ++ rest.marks)) 12 ≡ few = ap (λ n. nat_le n 12) size ∙ sym test in
-    shorter (first.marks ++ rest.marks) rest.whole few same both (is ∙ ap (λ l. take 12 (first.marks ++ l)) (take_whole rest.marks k long)) whole
 
 -- ---- what patterns make
 
@@ -434,16 +307,6 @@ module _ (c : List NodeV) where
       ) in
       let all = steady turn i once (n - turn) n (omega arith) in
       as_made are (λ o p low. ((all o p low).1, (all o p low).0))
-
--- ---- tests of both
-
-pub and_true : (a b : Bool) → a ≡ true → (a && b) ≡ b
-and_true true b is = refl
-and_true false b is = absurd (cc)
-
-pub and_false : (a b : Bool) → a ≡ false → (a && b) ≡ false
-and_false true b is = absurd (cc)
-and_false false b is = refl
 
 -- ---- one fact for another
 

@@ -8,6 +8,7 @@ pub mod Wanted
 pub mod Apart
 pub mod ListsMeeting
 pub mod Told
+pub mod Numbers
 pub mod Made
 pub mod Behind
 pub mod Laws

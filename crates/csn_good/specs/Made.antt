@@ -1,36 +1,9 @@
 -- Patterns as the private functions make them. No public contract cites these words.
-use Rattle.std.specs.Prelude.{◌≡◌, ℕ, ◌+◌, ◌*◌, ◌%◌, ◌≤◌, ◌↔◌, Bool, true, false, List, [], ◌∷◌, ◌++◌, length, slice_get, Some, IsTrue, Contains, nat_eq}
-use Rattle.std.specs.List.{list_any}
-use Rattle.csn_cert.specs.declared.pattern.Mark.{Mark}
-use Rattle.csn_cert.specs.declared.pattern.Mark.TheVariants.{Zero, One, Any}
+use Rattle.std.specs.Prelude.{◌≡◌, ℕ, ◌+◌, ◌%◌, ◌≤◌, ◌↔◌, true, false, List, ◌++◌, length, slice_get, Some, Contains}
 use Rattle.csn_cert.specs.PatternV.{PatternV}
-use Rattle.csn_cert.specs.CertificateV.{NodeV, IsPattern}
+use Rattle.csn_cert.specs.CertificateV.{NodeV}
 use Rattle.csn_good.specs.ClaimedSets.{patterns_at}
 use Rattle.csn_good.specs.Patterns.{shortened}
-
--- ---- a number for each pattern
-
-abbrev pub digit_of : Mark → ℕ
-digit_of Zero = 1
-digit_of One = 2
-digit_of Any = 3
-
-abbrev pub marks_number : List Mark → ℕ
-marks_number [] = 0
-marks_number (mark ∷ marks) = 3 * marks_number marks + digit_of mark
-
-abbrev pub end_number : Bool → ℕ
-end_number true = 1
-end_number false = 0
-
-abbrev pub pattern_number : PatternV → ℕ
-pattern_number p = 2 * marks_number p.marks + end_number p.whole
-
--- a pattern whose number is kept is kept
-abbrev pub AreKept : List PatternV → List ℕ → Type 0
-AreKept patterns numbers =
-    (p : PatternV) → IsPattern p → IsTrue (list_any (λ n. nat_eq (pattern_number p) n) numbers)
-    → Contains patterns p
 
 -- ---- patterns from each octet position on
 

@@ -12,7 +12,8 @@ ghost use Rattle.csn_good.specs.Octets.{NodeWithin, PartsWithin};
 ghost use Rattle.csn_good.specs.Made.{MadeAt};
 
 use crate::leaf::leaf_pattern;
-use crate::made::{Made, PatternSet, made_of_parts, made_of_times};
+use crate::made::{Made, made_of_parts, made_of_times};
+use crate::pattern_set::{PatternSet, pattern_of};
 use csn_bits::NoMemory;
 use csn_cert::{Certificate, Mark, Pattern};
 use csn_desc::{Count, Desc, Node, Parts};
@@ -145,44 +146,59 @@ fn each_is_covered(c: &Certificate, i: u16, parts: &Parts) -> bool
 }
 
 /// Whether so are the patterns of a set at the octet position.
-fn are_covered(c: &Certificate, i: u16, octet: u8, patterns: &PatternSet) -> bool
+fn are_covered(
+    alloc: Global,
+    c: &Certificate,
+    i: u16,
+    octet: u8,
+    patterns: &PatternSet,
+) -> Result<bool, NoMemory>
     requires node { i < length c.now }
     requires octet { octet ≤ 7 }
-    ensures { IsTrue result ↔ AreCovered c.now i octet patterns.now }
+    ensures { IfOk result (λ covered. IsTrue covered ↔ AreCovered c.now i octet patterns.now) }
 {
-    for pattern in patterns.as_slice() {
-        if !is_covered(c, i, octet, *pattern) {
-            return false;
+    let numbers = patterns.numbers(alloc)?;
+    for number in numbers.as_slice() {
+        if !is_covered(c, i, octet, pattern_of(*number)) {
+            return Ok(false);
         }
     }
-    true
+    Ok(true)
 }
 
 /// Whether so are the patterns that are made from the octet position on, where node `i` has it.
-fn made_is_covered_at(c: &Certificate, i: u16, made: &Made, octet: u8) -> bool
+fn made_is_covered_at(
+    alloc: Global,
+    c: &Certificate,
+    i: u16,
+    made: &Made,
+    octet: u8,
+) -> Result<bool, NoMemory>
     requires node { i < length c.now }
     requires made { length made.now.at.items ≡ 8 }
     requires octet { octet ≤ 7 }
-    ensures { IsTrue result ↔ MadeIsCoveredAt c.now i made.now.at.items octet }
+    ensures { IfOk result (λ covered. IsTrue covered ↔ MadeIsCoveredAt c.now i made.now.at.items octet) }
 {
     if !c.has(i, octet) {
-        return true;
+        return Ok(true);
     }
-    are_covered(c, i, octet, made.set_at(octet))
+    let covered = are_covered(alloc, c, i, octet, made.set_at(octet))?;
+    Ok(covered)
 }
 
 /// Whether so are they from each octet position on.
-fn made_is_covered(c: &Certificate, i: u16, made: &Made) -> bool
+fn made_is_covered(alloc: Global, c: &Certificate, i: u16, made: &Made) -> Result<bool, NoMemory>
     requires node { i < length c.now }
     requires made { length made.now.at.items ≡ 8 }
-    ensures { IsTrue result ↔ MadeIsCovered c.now i made.now.at.items }
+    ensures { IfOk result (λ covered. IsTrue covered ↔ MadeIsCovered c.now i made.now.at.items) }
 {
     for octet in 0..8 {
-        if !made_is_covered_at(c, i, made, octet) {
-            return false;
+        let covered = made_is_covered_at(alloc, c, i, made, octet)?;
+        if !covered {
+            return Ok(false);
         }
     }
-    true
+    Ok(true)
 }
 
 /// Whether the pattern of such a node is covered, at each octet position that it has.
@@ -217,7 +233,8 @@ fn turns_are_covered(
     match count {
         Count::Fixed(n) => {
             let made = made_of_times(alloc, c, part, n)?;
-            Ok(made_is_covered(c, i, &made))
+            let covered = made_is_covered(alloc, c, i, &made)?;
+            Ok(covered)
         }
         Count::Counted {
             m: _,
@@ -243,7 +260,8 @@ pub(crate) fn keeps_keys(
     match node {
         Node::Seq(parts) => {
             let made = made_of_parts(alloc, c, parts)?;
-            Ok(made_is_covered(c, i, &made))
+            let covered = made_is_covered(alloc, c, i, &made)?;
+            Ok(covered)
         }
         Node::Choice(parts) => Ok(each_is_covered(c, i, parts)),
         Node::Times { count, part } => turns_are_covered(alloc, desc, c, i, node, *count, *part),

@@ -12,6 +12,7 @@ pub mod laws;
 mod leaf;
 mod made;
 mod octets;
+mod pattern_set;
 mod reaching;
 mod sets;
 mod tail;

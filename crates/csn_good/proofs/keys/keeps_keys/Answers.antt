@@ -12,10 +12,10 @@ returns-in_default c =
     (other_is_leaf c.args.node.now c.in_default.not-Seq c.in_default.not-Choice c.in_default.not-Times
     c.in_default.not-Named))
 
-pub returns-in_ok-made-in-Seq : goal.returns-in_ok-made-in-Seq
-returns-in_ok-made-in-Seq c =
-    along (λ n. IsTrue c.made_is_covered.result ↔ KeepsKeys c.args.desc.now c.args.c.now c.args.i n) c.in-Seq.is
-    (tells c.made_is_covered.ensures (seq_keys c.args.desc.now c.args.c.now c.requires.certificate c.args.i
+pub returns-in_ok-covered-in-Seq : goal.returns-in_ok-covered-in-Seq
+returns-in_ok-covered-in-Seq c =
+    along (λ n. IsTrue c.in_ok-covered-in-Seq.covered ↔ KeepsKeys c.args.desc.now c.args.c.now c.args.i n) c.in-Seq.is
+    (tells c.in_ok-covered-in-Seq.ensures (seq_keys c.args.desc.now c.args.c.now c.requires.certificate c.args.i
     c.in-Seq.parts _ c.in_ok-made-in-Seq.ensures))
 
 pub returns-in-Choice : goal.returns-in-Choice

@@ -16,7 +16,7 @@ returns-then-not-has c = (
 
 pub returns : goal.returns
 returns c = (
-  (λ h p reached at. c.are_covered.ensures.0 h p (in_set c.args.made.now.at.items c.args.octet c.set_at.result.now p c.set_at.ensures at)),
-  (λ h. c.are_covered.ensures.1 (λ p there. h p (sym c.has.ensures ∙ c.if-not-has.false)
+  (λ h p reached at. c.in_ok-covered.ensures.0 h p (in_set c.args.made.now.at.items c.args.octet c.set_at.result.now p c.set_at.ensures at)),
+  (λ h. c.in_ok-covered.ensures.1 (λ p there. h p (sym c.has.ensures ∙ c.if-not-has.false)
       (record { patterns = c.set_at.result.now; at = c.set_at.ensures; is_made = there }))),
 )

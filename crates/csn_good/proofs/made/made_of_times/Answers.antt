@@ -16,10 +16,10 @@ is_same-requires-clause-made c = c.in_ok-more.ensures.eight
 pub is_same-requires-clause-other : goal.is_same-requires-clause-other
 is_same-requires-clause-other c = c.loop-turn.invariant.eight
 
-pub returns-then-is_same : goal.returns-then-is_same
-returns-then-is_same c =
+pub returns-then-same : goal.returns-then-same
+returns-then-same c =
     let on = times_on c.args.c.now c.loop-turn.turn c.args.i c.loop-turn.made.at.items c.in_ok-more.more.at.items c.loop-turn.invariant c.in_ok-more.ensures in
-    let same = c.is_same.ensures c.if-is_same.true in
+    let same = c.in_ok-same.ensures c.if-same.true in
     let less = c.loop-turn-test.true in
     times_stay c.args.c.now c.args.n c.loop-turn.turn c.args.i c.loop-turn.made.at.items c.in_ok-more.more.at.items
     (omega arith) c.loop-turn.invariant on (λ o p. (same o p).0) (λ o p. (same o p).1)

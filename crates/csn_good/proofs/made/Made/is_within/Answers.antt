@@ -17,7 +17,7 @@ loop-octet-preserved c = λ o p less h.
             patterns = c.set_at-others.result.now;
             at = c.set_at-others.ensures;
             is_made =
-                c.is_within.ensures c.if-not-is_within.false p (subst (λ l. Contains l p) list here.is_made);
+                c.in_ok-within.ensures c.if-not-within.false p (subst (λ l. Contains l p) list here.is_made);
           }) h
       | inr apart ↦ (let differ = apart.1 in c.loop-octet.invariant o p (omega arith) h)
     ]

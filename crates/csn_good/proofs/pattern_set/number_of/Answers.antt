@@ -1,7 +1,7 @@
 use Rattle.std.proofs.Common.{◌+◌, ◌-◌, ◌*◌, drop, ◌∙◌, ap, arith}
-use Rattle.csn_good.specs.Made.{marks_number}
-use Rattle.csn_good.proofs.Making.{number_small, number_more, digit_small}
-use Rattle.csn_good.proofs.made.number_of.Goals as goal
+use Rattle.csn_good.specs.Numbers.{marks_number}
+use Rattle.csn_good.proofs.Numbered.{number_small, number_more, digit_small}
+use Rattle.csn_good.proofs.pattern_set.number_of.Goals as goal
 
 pub overflow_add-number : goal.overflow_add-number
 overflow_add-number c =
