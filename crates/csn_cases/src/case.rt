@@ -1,8 +1,8 @@
-ghost use Rattle.std.specs.Prelude.{◌≤◌};
+ghost use Rattle.std.specs.Prelude.{◌≡◌, ◌≤◌, IfOk};
 
 use crate::shelf::Shelf;
 use csn_catalogue::entries;
-use csn_io::{MemShelf, MemSink, MemSource};
+use csn_io::{MemShelf, MemSink, MemSource, Sink};
 use csn_replay::{BitsWatcher, EntryWatcher, RefusedWatcher, Watcher};
 use csn_run::run;
 use std::alloc::{AllocError, Global};
@@ -46,6 +46,7 @@ impl Case {
     /// An outside with the files and the input, which moves so many bytes in a call.
     fn outside(&self, alloc: Global, files: &Shelf, most: u32) -> Result<Outside, AllocError>
         requires { 1 ≤ most }
+        ensures unfailed { IfOk result (λ outside. ⟦<MemSink as Sink>⟧.faults outside.sink ≡ 0) }
     {
         let files = files.copy()?;
         let input = self.input.clone()?;

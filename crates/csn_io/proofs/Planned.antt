@@ -17,6 +17,7 @@ pub held_there : {A B : Type 0} (f : A → B) (told : Option A) (x : A) → told
 held_there f told x is none = (let both : Some (f x) ≡ None = sym (ap (option_map f) is) ∙ none in cc)
 
 pub fails_due :
-    (old new : MemShelf) (name : List ℕ) → (file_of old.files name ≡ None → ⊥) → new.calls ≡ after_call old.calls
-    → IsDue old.calls → old.calls.made < 2 ^ 32 → FetchesAsPlanned old name (Err Failed) new
-fails_due old new name held counted due in_range = record { held = held; due = due; in_range = in_range; not_due = tt; counted = counted }
+    (old new : MemShelf) (name : List ℕ) (most : ℕ) → (file_of old.files name ≡ None → ⊥) → new.calls ≡ after_call old.calls
+    → IsDue old.calls → old.calls.made < 2 ^ 32 → FetchesAsPlanned old name most (Err Failed) new
+fails_due old new name most held counted due in_range =
+    record { held = held; due = due; in_range = in_range; not_due = tt; at_most = tt; counted = counted }

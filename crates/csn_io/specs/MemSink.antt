@@ -1,7 +1,8 @@
 -- A sink in memory, call by call. (This project's own choice.)
-use Rattle.std.specs.Prelude.{◌≡◌, ℕ, ◌^◌, ◌<◌, List, min}
+use Rattle.std.specs.Prelude.{◌≡◌, ◌≢◌, ℕ, ◌^◌, ◌<◌, List, min}
 use Rattle.csn_io.specs.declared.memory.sink.MemSink.{MemSink}
 use Rattle.csn_io.specs.declared.sink.Put.{Put}
+use Rattle.csn_io.specs.declared.sink.Put.TheVariants.{NoMemory}
 use Rattle.csn_io.specs.Put.{IfTook, OnFailed, UnlessFailed}
 use Rattle.csn_io.specs.Calls.{IsPlanned, IsDue, after_call}
 
@@ -21,3 +22,8 @@ pub record AnswersAsPlanned (old : MemSink) (put : Put) (new : MemSink) : Type 0
 pub record PutsAsPlanned (old : MemSink) (len : ℕ) (put : Put) (new : MemSink) : Type 0 where
   pub call : AnswersAsPlanned old put new
   pub count : IfTook put (λ n. n ≡ min len old.most)
+
+-- a flush, for which no memory is wanted
+pub record FlushesAsPlanned (old : MemSink) (put : Put) (new : MemSink) : Type 0 where
+  pub call : AnswersAsPlanned old put new
+  pub memory : put ≢ NoMemory

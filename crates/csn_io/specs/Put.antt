@@ -40,3 +40,13 @@ FlushedAll taken flushed = flushed ≡ option_map (λ bytes. length bytes) taken
 abbrev pub KeepsFlushed : Option ℕ → Option ℕ → Type 0
 KeepsFlushed None after = after ≡ None
 KeepsFlushed (Some before) after = (now : ℕ) × (before ≤ now) × (after ≡ Some now)
+
+-- a sink that comes of a call that flushes it, with some answer, where `gives` is what its form promises of one: what it had
+-- taken it has taken, and where the call was made, all of that is flushed
+pub record LeftByFlush {Sink : Type 0} (gives : Sink → Put → Sink → Type 0) (taken : Sink → Option (List ℕ))
+    (flushed : Sink → Option ℕ) (after : Sink) : Type 0 where
+  pub before : Sink
+  pub answer : Put
+  pub given : gives before answer after
+  pub taken_stays : taken after ≡ taken before
+  pub done : IfTook answer (λ _. FlushedAll (taken after) (flushed after))

@@ -33,8 +33,8 @@ pub trait Shelf {
     ghost steady: { Self → Type 0 };
 
     /// What a form promises of a call beyond what every shelf does: of itself before the call, the
-    /// name, the answer, and itself afterwards.
-    ghost fetch_gives: { Self → List ℕ → Result (Vec ℕ Global) ShelfFault → Self → Type 0 } = { λ _ _ _ _. ⊤ };
+    /// name, how many bytes are asked for at most, the answer, and itself afterwards.
+    ghost fetch_gives: { Self → List ℕ → ℕ → Result (Vec ℕ Global) ShelfFault → Self → Type 0 } = { λ _ _ _ _ _. ⊤ };
 
     /// The first `most` bytes of the file with this name, or all of them where it has fewer.
     ///
@@ -59,7 +59,7 @@ pub trait Shelf {
         ensures steady_count { steady self.old → faults self.new ≡ faults self.old }
         ensures steady_not_failed { OnFailed result (steady self.old → ⊥) }
 
-        ensures gives { fetch_gives self.old name.now result self.new };
+        ensures gives { fetch_gives self.old name.now most result self.new };
 }
 
 impl From<AllocError> for ShelfFault {

@@ -1,6 +1,6 @@
 ghost use Rattle.std.specs.Prelude.{◌≡◌, ℕ, ◌<◌, ◌≤◌, List, Option, length, take, ⊤};
 ghost use Rattle.csn_io.specs.Faults.{Keeps, Rose};
-ghost use Rattle.csn_io.specs.Put.{IfTook, UnlessTook, OnFailed, Appended, FlushedAll, KeepsFlushed};
+ghost use Rattle.csn_io.specs.Put.{IfTook, UnlessTook, OnFailed, UnlessFailed, Appended, FlushedAll, KeepsFlushed};
 ghost use Rattle.csn_io.specs.declared.sink.Put.TheVariants.{Failed};
 
 /// What came of handing bytes to a sink, or of flushing it.
@@ -13,7 +13,7 @@ pub enum Put {
     NoMemory,
 }
 
-/// A place to put bytes in their order.
+/// A place to put bytes in their order. A sink of which a call has failed is not asked again.
 pub trait Sink {
     ghost use Rattle.csn_io.specs.declared.sink.Put.{Put};
 
@@ -38,7 +38,8 @@ pub trait Sink {
 
     /// Takes some bytes from the front of the piece.
     fn put(&mut self, piece: &[u8]) -> Put
-        requires { 0 < length piece.now }
+        requires some { 0 < length piece.now }
+        requires unfailed { faults self.old ≡ 0 }
         ensures appended { IfTook result (λ n. Appended (taken self.old) (taken self.new) (take n piece.now)) }
         ensures at_least_one { IfTook result (λ n. 0 < n) }
         ensures within { IfTook result (λ n. n ≤ length piece.now) }
@@ -47,6 +48,7 @@ pub trait Sink {
 
         // Failed comes only with a fault, and nothing else is a fault.
         ensures failed { OnFailed result (Rose (faults self.old) (faults self.new)) }
+        ensures no_fault { UnlessFailed result (faults self.new ≡ faults self.old) }
         ensures outside { Keeps (steady self.old) (steady self.new) (faults self.old) (faults self.new) (result ≡ Failed) }
         ensures steady_not_failed { OnFailed result (steady self.old → ⊥) }
 
@@ -54,6 +56,7 @@ pub trait Sink {
 
     /// Hands on what was taken. Whatever it answers, no further byte is taken.
     fn flush(&mut self) -> Put
+        requires unfailed { faults self.old ≡ 0 }
         ensures taken_stays { taken self.new ≡ taken self.old }
         ensures took_none { IfTook result (λ n. n ≡ 0) }
         ensures flushed_all { IfTook result (λ _. FlushedAll (taken self.new) (flushed self.new)) }
@@ -61,6 +64,7 @@ pub trait Sink {
 
         // Failed comes only with a fault, and nothing else is a fault.
         ensures failed { OnFailed result (Rose (faults self.old) (faults self.new)) }
+        ensures no_fault { UnlessFailed result (faults self.new ≡ faults self.old) }
         ensures outside { Keeps (steady self.old) (steady self.new) (faults self.old) (faults self.new) (result ≡ Failed) }
         ensures steady_not_failed { OnFailed result (steady self.old → ⊥) }
 

@@ -38,6 +38,7 @@ pub fn answer_lines<C: LineCommand, S: Source, K: Sink>(
 ) -> Result<Ended, Fault>
     requires begin { C.reads command.old [] }
     requires ready { IsReady lines.old }
+    requires unfailed { K.faults out.old ≡ 0 }
     ensures ok { IfOk result (λ ended. AnswersAll (Works (C.work command.old)) closing_of (C.kept command.old)
         (S.left input.old) (S.left input.new) (K.taken out.old) (K.taken out.new)
         lines.new.pending.items lines.new.refused × (ended ≡ end_of lines.new.refused)) }
@@ -61,6 +62,7 @@ pub fn answer_captures<S: Source, K: Sink>(
 ) -> Result<Ended, Fault>
     requires begin { ReadsCapture text.writers.items text.head [] }
     requires ready { IsReady lines.old }
+    requires unfailed { K.faults out.old ≡ 0 }
     ensures ok { IfOk result (λ ended. AnswersAll (Works (replaying_by (map desc_of text.entry.writers.items))) closing_of
         (record { bodies = []; watchers = map (λ b. watched b) watchers.items })
         (S.left input.old) (S.left input.new) (K.taken out.old) (K.taken out.new)

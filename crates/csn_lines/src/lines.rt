@@ -288,6 +288,7 @@ impl Lines {
         requires at { (line : List ℕ) × AtLine (C.reads command.old) self.old.given self.old.held line
             × (length line + length piece.now ≤ MOST_INPUT) }
         requires pending { self.old.pending.items ≡ [] }
+        requires unfailed { K.faults out.old ≡ 0 }
         ensures ok { OnOk result ((line : List ℕ) → AtLine (C.reads command.old) self.old.given self.old.held line
             → (line' : List ℕ) × AtLine (C.reads command.new) self.new.given self.new.held line'
             × PassesOn (Works (C.work command.old)) (C.kept command.old) (line ++ piece.now)
@@ -322,6 +323,7 @@ impl Lines {
         requires line { IsFresh self.old }
         requires pending { self.old.pending.items ≡ [] }
         requires refused { self.old.refused ≡ false }
+        requires unfailed { K.faults out.old ≡ 0 }
         ensures read { result ≡ Err Fault.Read → Rose (S.faults input.old) (S.faults input.new) }
         ensures write { result ≡ Err Fault.Write → Rose (K.faults out.old) (K.faults out.new) }
         ensures ok { OnOk result (AnswersAll (Works (C.work command.old)) closing_of (C.kept command.old)

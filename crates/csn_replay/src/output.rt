@@ -10,6 +10,7 @@ use csn_io::{Put, Sink};
 
 /// Hands a text to the sink. After a fault the sink has taken a prefix of it.
 pub fn put_all<K: Sink>(text: &[u8], out: &mut K) -> Told
+    requires unfailed { K.faults out.old ≡ 0 }
     ensures wrote { Wrote result (K.taken out.old) (K.taken out.new) text.now }
     ensures write_fault { result ≡ WriteFault → Rose (K.faults out.old) (K.faults out.new) }
     ensures outside { Keeps (K.steady out.old) (K.steady out.new) (K.faults out.old) (K.faults out.new) (result ≡ WriteFault) }

@@ -48,6 +48,7 @@ fn fed_line(alloc: Global, watcher: &Box<dyn Watcher>) -> Result<Vec<u8>, NoMemo
 
 /// Writes the report line of a watcher, and a line feed.
 fn report<K: Sink>(alloc: Global, watcher: &Box<dyn Watcher>, out: &mut K) -> Told
+    requires unfailed { K.faults out.old ≡ 0 }
     ensures wrote { Wrote result (K.taken out.old) (K.taken out.new) (report_line (watched watcher.now) ++ codes "\n") }
     ensures write_fault { result ≡ WriteFault → Rose (K.faults out.old) (K.faults out.new) }
     ensures outside { Keeps (K.steady out.old) (K.steady out.new) (K.faults out.old) (K.faults out.new) (result ≡ WriteFault) }
@@ -67,6 +68,7 @@ pub fn tell<K: Sink>(
     seen: &Seen,
     out: &mut K,
 ) -> Told
+    requires unfailed { K.faults out.old ≡ 0 }
     ensures watchers { map (λ b. watched b) watchers.new.items ≡ still_watching seen.now (map (λ b. watched b) watchers.old.items) }
     ensures wrote { Wrote result (K.taken out.old) (K.taken out.new) (reports (done_watching seen.now (map (λ b. watched b) watchers.old.items))) }
     ensures write_fault { result ≡ WriteFault → Rose (K.faults out.old) (K.faults out.new) }
@@ -90,6 +92,7 @@ pub fn tell<K: Sink>(
 /// Lets all watchers report in order, each on a line of its own, and drops them. After a fault the sink has taken a prefix
 /// of the reports.
 pub fn close<K: Sink>(alloc: Global, watchers: Vec<Box<dyn Watcher>>, out: &mut K) -> Told
+    requires unfailed { K.faults out.old ≡ 0 }
     ensures wrote { Wrote result (K.taken out.old) (K.taken out.new) (reports (map (λ b. watched b) watchers.items)) }
     ensures write_fault { result ≡ WriteFault → Rose (K.faults out.old) (K.faults out.new) }
     ensures outside { Keeps (K.steady out.old) (K.steady out.new) (K.faults out.old) (K.faults out.new) (result ≡ WriteFault) }

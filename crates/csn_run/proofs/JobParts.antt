@@ -1,5 +1,5 @@
 -- What a job does with the outside, by what the functions that do it ensure.
-use Rattle.std.proofs.Common.{◌≡◌, ℕ, ◌≤◌, ◌⊎◌, Bool, true, false, inl, inr, List, [], ◌∷◌, length, Option, Result, Ok, Err, IfOk, refl, sym, subst}
+use Rattle.std.proofs.Common.{◌≡◌, ℕ, ◌+◌, ◌≤◌, ◌⊎◌, Bool, true, false, inl, inr, List, [], ◌∷◌, length, Option, Result, Ok, Err, IfOk, refl, sym, subst}
 use Rattle.std.specs.Prelude.{Vec}
 use Rattle.std.specs.declared.alloc.Global.{Global}
 use Rattle.csn_desc.specs.declared.reading.Reading.{Reading}
@@ -13,12 +13,13 @@ use Rattle.csn_lines.specs.declared.fault.Fault.{Fault}
 use Rattle.csn_lines.specs.declared.fault.Fault.TheVariants.{Read, Write, Memory}
 use Rattle.csn_run.specs.declared.planned.Unplanned.TheVariants.{Text}
 use Rattle.csn_command.specs.Command.{IsCompat, IsOverRule, IsVerify, NamesFiles, ReadsLines, names_one, names_pair, names_certificate}
-use Rattle.csn_run.specs.Job.{Asked, AsksFiles, ComesTo, LeavesStreams}
-use Rattle.csn_run.specs.Outside.{LeftByFetch, LeftByFetches}
+use Rattle.csn_plan.specs.declared.compiling.TheConstants.{MOST_DESCRIPTION}
+use Rattle.csn_run.specs.Job.{Asked, AsksFiles, ComesTo, FetchesInOrder, GivesDescription, IsDescription, LeavesStreams, fetches_first}
+use Rattle.csn_run.specs.Outside.{LeftByFetch}
 use Rattle.csn_run.specs.Planned.{Refuses}
 use Rattle.csn_lines.specs.Ends.{BlamesStreams, end_of}
 use Rattle.csn_lines.specs.Jobs.{LineJob}
-use Rattle.csn_run.proofs.CommandLemmas.{comes_to_none, no_files, one_comes, one_file, two_files, verify_files}
+use Rattle.csn_run.proofs.CommandLemmas.{comes_to_none, no_files, one_comes}
 use Rattle.csn_lines.proofs.OutsideLemmas.{keeps_still}
 
 -- ---- the source and the sink
@@ -89,55 +90,67 @@ module _ (reason : NoPlan) (waits : List ℕ) where
 
 -- ---- the shelf
 
+-- a call that gave a text gave a description, where that is all of the file
+pub gives_description :
+    {Shelf E : Type 0} (gives : Shelf → List ℕ → ℕ → Result (Vec ℕ Global) ShelfFault → Shelf → Type 0)
+    (files : Option (List ℕ → Option (List ℕ))) (file : List ℕ) (before after : Shelf) (fetched : Result (Vec ℕ Global) E)
+    → IfOk fetched (λ text. gives before file (MOST_DESCRIPTION + 1) (Ok text) after)
+    → IfOk fetched (λ text. IsDescription files file text.items)
+    → IfOk fetched (λ text. GivesDescription gives files file text.items before after)
+gives_description gives files file before after (Ok text) given whole =
+    record { bytes = text; given = given; bytes_are = refl; whole = whole }
+gives_description gives files file before after (Err why) given whole = tt
+
 -- words of three or fewer ask for no file
 pub asks_none :
-    {Shelf : Type 0} {words : List (List ℕ)} {gives : Shelf → List ℕ → Result (Vec ℕ Global) ShelfFault → Shelf
-    → Type 0} {files : Option (List ℕ → Option (List ℕ))} {shelf : Shelf} {lacking : Type 0}
+    {Shelf : Type 0} {words : List (List ℕ)} {gives : Shelf → List ℕ → ℕ → Result (Vec ℕ Global) ShelfFault
+    → Shelf → Type 0} {files : Option (List ℕ → Option (List ℕ))} {shelf : Shelf} {lacking : Type 0}
     → length words ≤ 3 → AsksFiles words gives files shelf shelf lacking
 asks_none {words = words} {files = files} few = record {
   no_file = λ none. refl;
-  fetched = λ names named. absurd (no_files few named);
+  fetched = λ file named. absurd (no_files few named.2);
   missing = λ file comes lacks. absurd (comes_to_none words file files few comes);
 }
 
 -- words that name these files ask for the first, and then perhaps for the next
 pub asks_named :
     {Shelf : Type 0} {words : List (List ℕ)} {file : List ℕ} {others : List (List ℕ)} {lacking : Type 0}
-    (gives : Shelf → List ℕ → Result (Vec ℕ Global) ShelfFault → Shelf → Type 0)
+    (gives : Shelf → List ℕ → ℕ → Result (Vec ℕ Global) ShelfFault → Shelf → Type 0)
     (files : Option (List ℕ → Option (List ℕ))) (shelf shelf' : Shelf)
-    → NamesFiles words (file ∷ others) → ((names : List (List ℕ)) → NamesFiles words names → names ≡ file ∷ others)
-    → LeftByFetches gives (file ∷ others) shelf shelf'
+    → NamesFiles words (file ∷ others) → FetchesInOrder words gives files shelf shelf'
     → ((other : List ℕ) → ComesTo words files other → LacksFile files other → lacking) → AsksFiles words gives files shelf shelf' lacking
-asks_named {file = file} {others = others} gives files shelf shelf' named alone fetched missing = record {
+asks_named {file = file} {others = others} gives files shelf shelf' named fetched missing = record {
   no_file = λ none. absurd (none file ([], others, named));
-  fetched = λ names is. subst (λ l. LeftByFetches gives l shelf shelf') (sym (alone names is)) fetched;
+  fetched = λ other is. fetched;
   missing = missing;
 }
 
-module _ {Shelf : Type 0} {words : List (List ℕ)} {lacking : Type 0} (gives : Shelf → List ℕ → Result (Vec ℕ Global)
+module _ {Shelf : Type 0} {words : List (List ℕ)} {lacking : Type 0} (gives : Shelf → List ℕ → ℕ → Result (Vec ℕ Global)
     ShelfFault → Shelf → Type 0) (files : Option (List ℕ → Option (List ℕ))) (shelf shelf' : Shelf) where
   -- words that name a rule ask for its file alone
   pub asks_one :
-      {file name : List ℕ} {reading : Reading} → IsOverRule words file name reading → LeftByFetch (gives shelf file) shelf'
+      {file name : List ℕ} {reading : Reading} → IsOverRule words file name reading → LeftByFetch (gives shelf file (MOST_DESCRIPTION + 1)) shelf'
       → (LacksFile files file → lacking) → AsksFiles words gives files shelf shelf' lacking
   asks_one {file = file} {name = name} {reading = reading} over fetched missing =
-      asks_named gives files shelf shelf' (names_one file name reading over refl) (λ names named. one_file over named) (shelf', fetched, inl refl)
+      asks_named gives files shelf shelf' (names_one file name reading over refl)
+      (fetches_first file [] (names_one file name reading over refl) fetched)
       (λ other comes lacks. missing (subst (LacksFile files) (one_comes files over comes) lacks))
 
-  -- those of `compat` ask for both files
+  -- those of `compat` ask for both files, or for the first alone
   pub asks_pair :
-      {before after name : List ℕ} {reading : Reading} → IsCompat words before after name reading → LeftByFetches gives (before ∷ after ∷ []) shelf shelf'
+      {before after name : List ℕ} {reading : Reading} → IsCompat words before after name reading
+      → FetchesInOrder words gives files shelf shelf'
       → ((other : List ℕ) → ComesTo words files other → LacksFile files other → lacking) → AsksFiles words gives files shelf shelf' lacking
   asks_pair {before = before} {after = after} {name = name} {reading = reading} row =
-      asks_named gives files shelf shelf' (names_pair before after name reading row refl) (λ names named. two_files row named)
+      asks_named gives files shelf shelf' (names_pair before after name reading row refl)
 
-  -- and those of `verify` for the description and the certificate
+  -- and those of `verify` for the description and the certificate, or for the description alone
   pub asks_certificate :
       {file name certificate : List ℕ} {reading : Reading} → IsVerify words file name reading certificate
-      → LeftByFetches gives (file ∷ certificate ∷ []) shelf shelf'
+      → FetchesInOrder words gives files shelf shelf'
       → ((other : List ℕ) → ComesTo words files other → LacksFile files other → lacking) → AsksFiles words gives files shelf shelf' lacking
   asks_certificate {file = file} {name = name} {certificate = certificate} {reading = reading} row =
-      asks_named gives files shelf shelf' (names_certificate file name reading certificate row refl) (λ names named. verify_files row named)
+      asks_named gives files shelf shelf' (names_certificate file name reading certificate row refl)
 
 -- where a file is lacking, what leaves the streams alone has done so
 pub lacking_alone : {A B Source Sink : Type 0} {source : Source} {sink : Sink} → A × B → A × (source ≡ source) × (sink ≡ sink) × B

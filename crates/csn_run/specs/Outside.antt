@@ -1,5 +1,5 @@
 -- What the top call tells of the outside. (This project's own choice.)
-use Rattle.std.specs.Prelude.{◌≡◌, ◌⊎◌, ℕ, List, [], ◌∷◌, Option, Some, Result, Vec}
+use Rattle.std.specs.Prelude.{◌≡◌, ◌⊎◌, ℕ, List, Option, Some, Result, Vec}
 use Rattle.std.specs.declared.alloc.Global.{Global}
 use Rattle.csn_io.specs.Faults.{Rose}
 use Rattle.csn_io.specs.ShelfFault.{LacksFile}
@@ -10,14 +10,7 @@ use Rattle.csn_io.specs.declared.shelf.ShelfFault.{ShelfFault}
 abbrev pub CannotRead : Option (List ℕ → Option (List ℕ)) → ℕ → ℕ → Option (List ℕ) → List ℕ → Type 0
 CannotRead files before after last_fault name = (Rose before after × (last_fault ≡ Some name)) ⊎ LacksFile files name
 
--- a shelf that comes of one call, with some answer, where `gives` is what its form promises of a call that asks for a
--- file
+-- a shelf that comes of one call, with some answer, where `gives` is what its form promises of a call that asks for so
+-- many bytes of a file
 abbrev pub LeftByFetch : {Shelf : Type 0} → (Result (Vec ℕ Global) ShelfFault → Shelf → Type 0) → Shelf → Type 0
 LeftByFetch gives after = (answer : Result (Vec ℕ Global) ShelfFault) × gives answer after
-
--- a shelf that comes of one call for the first of these files, and of one for each of some that follow it, in their order,
--- where `gives` is what the form of a shelf promises of a call that asks for a file
-abbrev pub LeftByFetches : {Shelf : Type 0} → (Shelf → List ℕ → Result (Vec ℕ Global) ShelfFault → Shelf → Type 0) → List (List ℕ) → Shelf → Shelf → Type 0
-LeftByFetches gives [] before after = after ≡ before
-LeftByFetches gives (file ∷ files) before after =
-    (between : _) × LeftByFetch (gives before file) between × ((after ≡ between) ⊎ LeftByFetches gives files between after)

@@ -1,15 +1,14 @@
 //! Whether a new description takes the blocks of an old one.
 
-ghost use Rattle.std.specs.Prelude.{◌≡◌, ◌≢◌, ◌⊎◌, ◌≤◌, ◌++◌, ◌∷◌, [], List, ℕ, Err, IfOk, IfErr, Option, length};
+ghost use Rattle.std.specs.Prelude.{◌≡◌, ◌≢◌, ◌⊎◌, ◌≤◌, ◌++◌, [], List, ℕ, Err, IfOk, IfErr, Option, length};
 ghost use Rattle.csn_io.specs.Faults.{Keeps};
 ghost use Rattle.csn_io.specs.ShelfFault.{LacksFile};
 ghost use Rattle.csn_replay.specs.Watched.{Watched};
 ghost use Rattle.csn_plan.specs.declared.compiling.TheConstants.{MOST_DESCRIPTION};
-ghost use Rattle.csn_lines.specs.declared.lines.TheConstants.{LINE_FEED};
 ghost use Rattle.csn_command.specs.Command.{IsRowOf};
 ghost use Rattle.csn_run.specs.Told.{Compares};
-ghost use Rattle.csn_run.specs.Job.{ComesTo, IsDescription, JobEnds};
-ghost use Rattle.csn_run.specs.Outside.{CannotRead, LeftByFetches};
+ghost use Rattle.csn_run.specs.Job.{ComesTo, FetchesInOrder, IsDescription, JobEnds};
+ghost use Rattle.csn_run.specs.Outside.{CannotRead};
 ghost use Rattle.csn_run.specs.Planned.{ComparesTexts, IsLongPair};
 
 use crate::planned::{Unplanned, description, end_line, refuse};
@@ -38,7 +37,8 @@ fn texts_of<B: Shelf>(alloc: Global, pair: PairWords<'_>, shelf: &mut B) -> Resu
         × CannotRead (B.files shelf.old) (B.faults shelf.old) (B.faults shelf.new) (B.last_fault shelf.new) pair.entry.after.now }
     ensures too_long { result ≡ Err Fault.TooLong → IsLongPair (B.files shelf.old) pair.entry }
     ensures not_write { result ≢ Err Fault.Write }
-    ensures fetched { LeftByFetches B.fetch_gives (pair.entry.before.now ∷ pair.entry.after.now ∷ []) shelf.old shelf.new }
+    ensures fetched { (words : List (List ℕ)) → IsRowOf words (Command.Compat pair.entry)
+        → FetchesInOrder words B.fetch_gives (B.files shelf.old) shelf.old shelf.new }
     ensures missing { LacksFile (B.files shelf.old) pair.entry.before.now → (result ≡ Err Fault.Read) ⊎ (result ≡ Err Fault.Memory) }
     ensures missing_after { (text : List ℕ) → IsDescription (B.files shelf.old) pair.entry.before.now text
         → LacksFile (B.files shelf.old) pair.entry.after.now → (result ≡ Err Fault.Read) ⊎ (result ≡ Err Fault.Memory) }
@@ -111,7 +111,8 @@ pub fn compare_files<B: Shelf>(
     ensures missing { (words : List (List ℕ)) (file : List ℕ) → IsRowOf words (Command.Compat pair.entry)
         → ComesTo words (B.files shelf.old) file → LacksFile (B.files shelf.old) file
         → ((result ≡ Err Fault.Read) ⊎ (result ≡ Err Fault.Memory)) × (pending.new.items ≡ []) }
-    ensures fetched { LeftByFetches B.fetch_gives (pair.entry.before.now ∷ pair.entry.after.now ∷ []) shelf.old shelf.new }
+    ensures fetched { (words : List (List ℕ)) → IsRowOf words (Command.Compat pair.entry)
+        → FetchesInOrder words B.fetch_gives (B.files shelf.old) shelf.old shelf.new }
     ensures shelf { Keeps (B.steady shelf.old) (B.steady shelf.new) (B.faults shelf.old) (B.faults shelf.new) (result ≡ Err Fault.Read) }
 {
     match texts_of(alloc, pair, shelf) {

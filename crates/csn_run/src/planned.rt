@@ -1,12 +1,12 @@
 //! From the words that name a rule to its plan, or to the line that says why there is none.
 
-ghost use Rattle.std.specs.Prelude.{◌≡◌, ◌≢◌, ◌⊎◌, ◌+◌, ◌<◌, ◌++◌, ◌∷◌, [], List, ℕ, Err, IfOk, IfErr, length};
+ghost use Rattle.std.specs.Prelude.{◌≡◌, ◌≢◌, ◌⊎◌, ◌+◌, ◌<◌, ◌++◌, ◌∷◌, [], List, ℕ, Ok, Err, IfOk, IfErr, length};
 ghost use Rattle.csn_io.specs.Faults.{Keeps};
 ghost use Rattle.csn_io.specs.ShelfFault.{BeginsFile, LacksFile};
 ghost use Rattle.csn_lines.specs.declared.lines.TheConstants.{LINE_FEED};
 ghost use Rattle.csn_plan.specs.declared.compiling.TheConstants.{MOST_DESCRIPTION};
 ghost use Rattle.csn_run.specs.declared.planned.Unplanned.TheVariants.{File, Text};
-ghost use Rattle.csn_run.specs.Job.{IsDescription, IsLonger, IsWhole};
+ghost use Rattle.csn_run.specs.Job.{GivesDescription, IsDescription, IsLonger, IsWhole};
 ghost use Rattle.csn_run.specs.Outside.{CannotRead, LeftByFetch};
 ghost use Rattle.csn_run.specs.Planned.{IsPlanned, IsWhy, Refuses};
 
@@ -56,7 +56,8 @@ pub fn whole_file<B: Shelf>(
     ensures too_long { result ≡ Err Fault.TooLong → IsLonger most (B.files shelf.old) file.now }
     ensures not_write { result ≢ Err Fault.Write }
     ensures missing { LacksFile (B.files shelf.old) file.now → (result ≡ Err Fault.Read) ⊎ (result ≡ Err Fault.Memory) }
-    ensures fetched { LeftByFetch (B.fetch_gives shelf.old file.now) shelf.new }
+    ensures fetched { LeftByFetch (B.fetch_gives shelf.old file.now (most + 1)) shelf.new }
+    ensures given { IfOk result (λ text. B.fetch_gives shelf.old file.now (most + 1) (Ok text) shelf.new) }
     ensures files { B.files shelf.new ≡ B.files shelf.old }
     ensures shelf { Keeps (B.steady shelf.old) (B.steady shelf.new) (B.faults shelf.old) (B.faults shelf.new) (result ≡ Err Fault.Read) }
 {
@@ -78,7 +79,8 @@ pub fn description<B: Shelf>(alloc: Global, shelf: &mut B, file: &str) -> Result
         → (front : List ℕ) × BeginsFile (B.files shelf.old) file.now (MOST_DESCRIPTION + 1) front × (MOST_DESCRIPTION < length front) }
     ensures not_write { result ≢ Err Fault.Write }
     ensures missing { LacksFile (B.files shelf.old) file.now → (result ≡ Err Fault.Read) ⊎ (result ≡ Err Fault.Memory) }
-    ensures fetched { LeftByFetch (B.fetch_gives shelf.old file.now) shelf.new }
+    ensures fetched { LeftByFetch (B.fetch_gives shelf.old file.now (MOST_DESCRIPTION + 1)) shelf.new }
+    ensures given { IfOk result (λ text. GivesDescription B.fetch_gives (B.files shelf.old) file.now text.items shelf.old shelf.new) }
     ensures files { B.files shelf.new ≡ B.files shelf.old }
     ensures shelf { Keeps (B.steady shelf.old) (B.steady shelf.new) (B.faults shelf.old) (B.faults shelf.new) (result ≡ Err Fault.Read) }
 {
@@ -97,7 +99,7 @@ pub fn plan_of<B: Shelf>(
         → CannotRead (B.files shelf.old) (B.faults shelf.old) (B.faults shelf.new) (B.last_fault shelf.new) rule.entry.file.now }
     ensures missing { LacksFile (B.files shelf.old) rule.entry.file.now
         → (result ≡ Err (Unplanned.File Fault.Read)) ⊎ (result ≡ Err (Unplanned.File Fault.Memory)) }
-    ensures fetched { LeftByFetch (B.fetch_gives shelf.old rule.entry.file.now) shelf.new }
+    ensures fetched { LeftByFetch (B.fetch_gives shelf.old rule.entry.file.now (MOST_DESCRIPTION + 1)) shelf.new }
     ensures shelf { Keeps (B.steady shelf.old) (B.steady shelf.new) (B.faults shelf.old) (B.faults shelf.new) (result ≡ Err (Unplanned.File Fault.Read)) }
 {
     let text = description(alloc, shelf, rule.file)?;
@@ -116,7 +118,7 @@ pub fn text_plan_of<B: Shelf>(
         → CannotRead (B.files shelf.old) (B.faults shelf.old) (B.faults shelf.new) (B.last_fault shelf.new) rule.entry.file.now }
     ensures missing { LacksFile (B.files shelf.old) rule.entry.file.now
         → (result ≡ Err (Unplanned.File Fault.Read)) ⊎ (result ≡ Err (Unplanned.File Fault.Memory)) }
-    ensures fetched { LeftByFetch (B.fetch_gives shelf.old rule.entry.file.now) shelf.new }
+    ensures fetched { LeftByFetch (B.fetch_gives shelf.old rule.entry.file.now (MOST_DESCRIPTION + 1)) shelf.new }
     ensures shelf { Keeps (B.steady shelf.old) (B.steady shelf.new) (B.faults shelf.old) (B.faults shelf.new) (result ≡ Err (Unplanned.File Fault.Read)) }
 {
     let plan = plan_of(alloc, shelf, rule)?;

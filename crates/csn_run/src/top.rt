@@ -2,18 +2,19 @@ ghost use Rattle.std.specs.Prelude.{◌≡◌, ◌≢◌, ◌↔◌, ◌⊎◌, 
 ghost use Rattle.std.specs.String.{string_bytes};
 ghost use Rattle.csn_io.specs.Faults.{Keeps, Rose};
 ghost use Rattle.csn_io.specs.Got.{NothingLeft};
-ghost use Rattle.csn_io.specs.Put.{Appended, FlushedAll};
+ghost use Rattle.csn_io.specs.Put.{Appended, FlushedAll, LeftByFlush};
 ghost use Rattle.csn_io.specs.ShelfFault.{LacksFile};
+ghost use Rattle.csn_plan.specs.declared.compiling.TheConstants.{MOST_DESCRIPTION};
 ghost use Rattle.csn_lines.specs.declared.lines.TheConstants.{LINE_FEED, MOST_INPUT};
 ghost use Rattle.csn_replay.specs.Watched.{Watched};
-ghost use Rattle.csn_command.specs.Command.{IsCommand, IsReplay, IsRowOf, IsSegments, NamesFile, NamesFiles, ReadsLines};
+ghost use Rattle.csn_command.specs.Command.{IsCommand, IsReplay, IsRowOf, IsSegments, NamesFile, ReadsLines};
 ghost use Rattle.csn_lines.specs.Ends.{BlamesStreams, end_of};
 ghost use Rattle.csn_lines.specs.Progress.{AnswersAll, Stops};
 ghost use Rattle.csn_lines.specs.Reading.{IsReady};
 ghost use Rattle.csn_lines.specs.LineState.{closing_of, nothing_kept};
 ghost use Rattle.csn_lines.specs.OutLine.{Works, by_plan};
-ghost use Rattle.csn_run.specs.Outside.{CannotRead, LeftByFetch, LeftByFetches};
-ghost use Rattle.csn_run.specs.Job.{Asked, AsksFiles, ComesTo, EndsUnread, JobEnds, LeavesStreams, end_with};
+ghost use Rattle.csn_run.specs.Outside.{CannotRead, LeftByFetch};
+ghost use Rattle.csn_run.specs.Job.{Asked, AsksFiles, ComesTo, EndsUnread, FetchesInOrder, JobEnds, LeavesStreams, end_with};
 ghost use Rattle.csn_run.specs.Result.{AnswersPromptly, BeginsResult, EndsBefore, IsFinished, IsStopped};
 ghost use Rattle.csn_run.specs.Result.{OldBlocksStay, Result, RulesHaveOneTree, StopsReading};
 ghost use Rattle.csn_lines.specs.Jobs.{LineJob};
@@ -53,7 +54,7 @@ fn report<B: Shelf>(
     ensures not_write { result ≢ Err Fault.Write }
     ensures missing { LacksFile (B.files shelf.old) rule.entry.file.now → ((result ≡ Err Fault.Read) ⊎ (result ≡ Err Fault.Memory))
         × (pending.new.items ≡ []) }
-    ensures fetched { LeftByFetch (B.fetch_gives shelf.old rule.entry.file.now) shelf.new }
+    ensures fetched { LeftByFetch (B.fetch_gives shelf.old rule.entry.file.now (MOST_DESCRIPTION + 1)) shelf.new }
     ensures shelf { Keeps (B.steady shelf.old) (B.steady shelf.new) (B.faults shelf.old) (B.faults shelf.new) (result ≡ Err Fault.Read) }
 {
     let plan = match plan_of(alloc, shelf, rule) {
@@ -73,6 +74,7 @@ fn answer_by_plan<S: Source, K: Sink>(
     lines: &mut Lines,
 ) -> Result<Ended, Fault>
     requires ready { IsReady lines.old }
+    requires unfailed { K.faults out.old ≡ 0 }
     ensures ok { IfOk result (λ ended. AnswersAll (Works (by_plan command plan.now)) closing_of nothing_kept
         (S.left input.old) (S.left input.new) (K.taken out.old) (K.taken out.new)
         lines.new.pending.items lines.new.refused × (ended ≡ end_of lines.new.refused)) }
@@ -105,6 +107,7 @@ fn answer_by_rule<B: Shelf, S: Source, K: Sink>(
     lines: &mut Lines,
 ) -> Result<Ended, Fault>
     requires ready { IsReady lines.old }
+    requires unfailed { K.faults out.old ≡ 0 }
     ensures ends { (words : List (List ℕ)) (watchers : List Watched) → IsRowOf words (Command.Answer command rule.entry)
         → JobEnds words (B.files shelf.old) watchers (S.left input.old) (S.left input.new)
         (K.taken out.old) (K.taken out.new) lines.new.pending.items result }
@@ -112,7 +115,7 @@ fn answer_by_rule<B: Shelf, S: Source, K: Sink>(
         ⊎ CannotRead (B.files shelf.old) (B.faults shelf.old) (B.faults shelf.new) (B.last_fault shelf.new) rule.entry.file.now }
     ensures missing { LacksFile (B.files shelf.old) rule.entry.file.now → ((result ≡ Err Fault.Read) ⊎ (result ≡ Err Fault.Memory))
         × (input.new ≡ input.old) × (out.new ≡ out.old) × (lines.new.pending.items ≡ []) }
-    ensures fetched { LeftByFetch (B.fetch_gives shelf.old rule.entry.file.now) shelf.new }
+    ensures fetched { LeftByFetch (B.fetch_gives shelf.old rule.entry.file.now (MOST_DESCRIPTION + 1)) shelf.new }
     ensures shelf { Keeps (B.steady shelf.old) (B.steady shelf.new) (B.faults shelf.old) (B.faults shelf.new) (result ≡ Err Fault.Read) }
     ensures streams { LeavesStreams result input.old input.new
         ((words : List (List ℕ)) (watchers : List Watched) → IsRowOf words (Command.Answer command rule.entry)
@@ -136,6 +139,7 @@ fn answer_segments<S: Source, K: Sink>(
     lines: &mut Lines,
 ) -> Result<Ended, Fault>
     requires ready { IsReady lines.old }
+    requires unfailed { K.faults out.old ≡ 0 }
     ensures ends { (words : List (List ℕ)) (files : Option (List ℕ → Option (List ℕ))) (watchers : List Watched)
         → IsSegments words reading → JobEnds words files watchers (S.left input.old) (S.left input.new)
         (K.taken out.old) (K.taken out.new) lines.new.pending.items result }
@@ -168,6 +172,7 @@ fn answer_replay<S: Source, K: Sink>(
     lines: &mut Lines,
 ) -> Result<Ended, Fault>
     requires ready { IsReady lines.old }
+    requires unfailed { K.faults out.old ≡ 0 }
     ensures ends { (words : List (List ℕ)) (files : Option (List ℕ → Option (List ℕ))) → IsReplay words reading
         → JobEnds words files (map (λ b. watched b) watchers.items) (S.left input.old) (S.left input.new)
         (K.taken out.old) (K.taken out.new) lines.new.pending.items result }
@@ -199,6 +204,7 @@ fn perform<B: Shelf, S: Source, K: Sink>(
     watchers: Vec<Box<dyn Watcher>>,
 ) -> Result<Ended, Fault>
     requires ready { IsReady lines.old }
+    requires unfailed { K.faults out.old ≡ 0 }
     requires row { (words : List (List ℕ)) × IsRowOf words command }
     ensures ends { (words : List (List ℕ)) → IsRowOf words command.entry
         → JobEnds words (B.files shelf.old) (map (λ b. watched b) watchers.items) (S.left input.old) (S.left input.new)
@@ -234,22 +240,28 @@ fn perform<B: Shelf, S: Source, K: Sink>(
     }
 }
 
-/// Hands on what is pending and flushes the sink, but after a fault of the sink.
+/// Hands on what is pending and flushes the sink, also where memory is wanting, but not after a fault of the sink.
 fn finish<K: Sink>(end: Result<Ended, Fault>, pending: &mut Vec<u8>, out: &mut K) -> Ended
+    requires unfailed { end ≢ Err Fault.Write → K.faults out.old ≡ 0 }
     ensures end { result ≢ Ended.WriteFault → result ≢ Ended.NoMemory → result ≡ end_with end }
     ensures took { (front rest : List ℕ) × (pending.old.items ≡ front ++ rest) × Appended (K.taken out.old) (K.taken out.new) front
         × (result ≢ Ended.WriteFault → result ≢ Ended.NoMemory → rest ≡ []) }
     ensures write { result ≡ Ended.WriteFault → (end_with end ≡ Ended.WriteFault) ⊎ Rose (K.faults out.old) (K.faults out.new) }
     ensures flushed { result ≢ Ended.WriteFault → result ≢ Ended.NoMemory → FlushedAll (K.taken out.new) (K.flushed out.new) }
+    ensures flushes { result ≢ Ended.WriteFault → LeftByFlush K.flush_gives K.taken K.flushed out.new }
     ensures out { Keeps (K.steady out.old) (K.steady out.new) (K.faults out.old) (K.faults out.new) (result ≡ Ended.WriteFault) }
 {
     if let Err(Fault::Write) = end {
         return Ended::WriteFault;
     }
-    if let Err(fault) = pass_on(pending, out) {
-        return fault.end();
+    let passed = pass_on(pending, out);
+    if let Err(Fault::Write) = passed {
+        return Ended::WriteFault;
     }
     if let Err(fault) = flush(out) {
+        return fault.end();
+    }
+    if let Err(fault) = passed {
         return fault.end();
     }
     match end {
@@ -274,6 +286,23 @@ fn read_row<'a>(alloc: Global, words: &'a [String]) -> Result<Vec<&'a str>, Ende
     Ok(read)
 }
 
+/// The end of a run that comes to no job. Where there was no memory to read the words, the sink is flushed, and whatever
+/// comes of that, the run ends so.
+fn end_unread<K: Sink>(end: Ended, out: &mut K) -> Ended
+    requires unfailed { K.faults out.old ≡ 0 }
+    ensures end { result ≡ end }
+    ensures usage { end ≡ Ended.Usage → out.new ≡ out.old }
+    ensures taken_stays { K.taken out.new ≡ K.taken out.old }
+    ensures flushes { end ≢ Ended.Usage → LeftByFlush K.flush_gives K.taken K.flushed out.new }
+    ensures out { Keeps (K.steady out.old) (K.steady out.new) (K.faults out.old) (K.faults out.new) (end ≢ Ended.Usage) }
+{
+    if let Ended::Usage = end {
+        return end;
+    }
+    let _flushed = flush(out);
+    end
+}
+
 /// Does the job that the words ask for. Where that is `replay`, the watchers count its blocks.
 pub fn run<B: Shelf, S: Source, K: Sink>(
     alloc: Global,
@@ -283,6 +312,9 @@ pub fn run<B: Shelf, S: Source, K: Sink>(
     out: &mut K,
     watchers: Vec<Box<dyn Watcher>>,
 ) -> Ended
+    // A sink of which a call has failed is not asked again.
+    requires unfailed { K.faults out.old ≡ 0 }
+
     // Usage comes where the words are no row of the command table, and then the outside is left alone.
     ensures usage { (result ≡ Ended.Usage) ↔ (IsCommand (map string_bytes words.now) → ⊥) }
     ensures row { result ≢ Ended.Usage → IsCommand (map string_bytes words.now) }
@@ -327,11 +359,12 @@ pub fn run<B: Shelf, S: Source, K: Sink>(
         → length whole ≤ length rest + MOST_INPUT + 1 }
 
     // A command that names no file leaves the shelf alone. Of one that names files, it is as one call for the first leaves
-    // it, and then perhaps one for the next: no other file is fetched, in no other order, and no more often. Where there was
-    // no memory to read the words, none is.
+    // it, and then perhaps one for the next, where the run comes to it: no other file is fetched, in no other order, no more
+    // often, and no more of it than one byte past its limit. Where there was no memory to read the words, none is.
     ensures no_file { ((file : List ℕ) → NamesFile (map string_bytes words.now) file → ⊥) → shelf.new ≡ shelf.old }
-    ensures fetched { (files : List (List ℕ)) → NamesFiles (map string_bytes words.now) files
-        → LeftByFetches B.fetch_gives files shelf.old shelf.new ⊎ ((result ≡ Ended.NoMemory) × (shelf.new ≡ shelf.old)) }
+    ensures fetched { (file : List ℕ) → NamesFile (map string_bytes words.now) file
+        → FetchesInOrder (map string_bytes words.now) B.fetch_gives (B.files shelf.old) shelf.old shelf.new
+        ⊎ ((result ≡ Ended.NoMemory) × (shelf.new ≡ shelf.old)) }
 
     // After these ends the rules that the words name give no bits, of any length, two trees.
     ensures one_tree { (result ≡ Ended.Done) ⊎ (result ≡ Ended.SomeRefused) → (files : List ℕ → Option (List ℕ))
@@ -359,9 +392,10 @@ pub fn run<B: Shelf, S: Source, K: Sink>(
         × CannotRead (B.files shelf.old) (B.faults shelf.old) (B.faults shelf.new) (B.last_fault shelf.new) name) }
     ensures write_fault { result ≡ Ended.WriteFault → Rose (K.faults out.old) (K.faults out.new) }
 
-    // All that the sink took is flushed.
+    // All that the sink took is flushed. Where memory was wanting it is asked to flush it, but may have no memory either.
     ensures flushed { result ≢ Ended.Usage → result ≢ Ended.WriteFault → result ≢ Ended.NoMemory
         → FlushedAll (K.taken out.new) (K.flushed out.new) }
+    ensures flushes { result ≢ Ended.Usage → result ≢ Ended.WriteFault → LeftByFlush K.flush_gives K.taken K.flushed out.new }
 
     // No fault is swallowed: a count rises only where the end tells of it; and an outside of which no call fails shows
     // none.
@@ -373,7 +407,7 @@ pub fn run<B: Shelf, S: Source, K: Sink>(
     lines_have_one_answer();
     let read = match read_row(alloc, words) {
         Ok(read) => read,
-        Err(end) => return end,
+        Err(end) => return end_unread(end, out),
     };
     let Some(command) = command_of(&read) else {
         unreachable!();

@@ -1,18 +1,22 @@
 //! Whether a certificate is good for a description.
 
-ghost use Rattle.std.specs.Prelude.{◌≡◌, ◌≢◌, ◌⊎◌, ◌≤◌, ◌++◌, ◌∷◌, [], List, ℕ, Err, IfOk, IfErr, Option, length};
+ghost use Rattle.std.specs.Prelude.{◌≡◌, ◌≢◌, ◌⊎◌, ◌≤◌, ◌+◌, ◌++◌, ◌∷◌, [], List, ℕ, Err, IfOk, IfErr, Option, length};
 ghost use Rattle.csn_certify.specs.declared.certifying.CertifyFault.{CertifyFault};
 ghost use Rattle.csn_desc.specs.Nodes.{DescV};
+ghost use Rattle.csn_grammar.specs.Place.{HasRules};
+ghost use Rattle.csn_grammar.specs.RulesV.{RulesV};
+ghost use Rattle.csn_resolve.specs.Resolved.{IsResolved};
 ghost use Rattle.csn_io.specs.Faults.{Keeps};
 ghost use Rattle.csn_io.specs.ShelfFault.{LacksFile};
 ghost use Rattle.csn_replay.specs.Watched.{Watched};
 ghost use Rattle.csn_plan.specs.declared.compiling.NoPlan.TheVariants.{Plan};
 ghost use Rattle.csn_lines.specs.declared.lines.TheConstants.{LINE_FEED};
+ghost use Rattle.csn_plan.specs.declared.compiling.TheConstants.{MOST_DESCRIPTION};
 ghost use Rattle.csn_run.specs.declared.verifying.TheConstants.{MOST_CERTIFICATE};
 ghost use Rattle.csn_command.specs.Command.{IsVerify};
 ghost use Rattle.csn_run.specs.Told.{Verifies};
-ghost use Rattle.csn_run.specs.Job.{ComesTo, JobEnds};
-ghost use Rattle.csn_run.specs.Outside.{CannotRead, LeftByFetch, LeftByFetches};
+ghost use Rattle.csn_run.specs.Job.{ComesTo, FetchesInOrder, GivesDescription, JobEnds};
+ghost use Rattle.csn_run.specs.Outside.{CannotRead, LeftByFetch};
 ghost use Rattle.csn_run.specs.Planned.{HasDescription, IsChecked, IsWhy, TellsChecked};
 
 use crate::laws::known;
@@ -39,7 +43,10 @@ fn described<B: Shelf>(alloc: Global, shelf: &mut B, rule: RuleWords<'_>) -> Res
         → CannotRead (B.files shelf.old) (B.faults shelf.old) (B.faults shelf.new) (B.last_fault shelf.new) rule.entry.file.now }
     ensures missing { LacksFile (B.files shelf.old) rule.entry.file.now
         → (result ≡ Err (Unplanned.File Fault.Read)) ⊎ (result ≡ Err (Unplanned.File Fault.Memory)) }
-    ensures fetched { LeftByFetch (B.fetch_gives shelf.old rule.entry.file.now) shelf.new }
+    ensures fetched { LeftByFetch (B.fetch_gives shelf.old rule.entry.file.now (MOST_DESCRIPTION + 1)) shelf.new }
+    ensures given { IfOk result (λ desc. (text : List ℕ) × (rules : RulesV)
+        × GivesDescription B.fetch_gives (B.files shelf.old) rule.entry.file.now text shelf.old shelf.new
+        × HasRules text rules × IsResolved rules rule.entry.name.now rule.entry.reading desc) }
     ensures files { B.files shelf.new ≡ B.files shelf.old }
     ensures shelf { Keeps (B.steady shelf.old) (B.steady shelf.new) (B.faults shelf.old) (B.faults shelf.new) (result ≡ Err (Unplanned.File Fault.Read)) }
 {
@@ -116,7 +123,9 @@ pub fn verify_file<B: Shelf>(
     ensures missing { (words : List (List ℕ)) (file : List ℕ) → IsVerify words rule.entry.file.now rule.entry.name.now rule.entry.reading certificate.now
         → ComesTo words (B.files shelf.old) file → LacksFile (B.files shelf.old) file
         → ((result ≡ Err Fault.Read) ⊎ (result ≡ Err Fault.Memory)) × (pending.new.items ≡ []) }
-    ensures fetched { LeftByFetches B.fetch_gives (rule.entry.file.now ∷ certificate.now ∷ []) shelf.old shelf.new }
+    ensures fetched { (words : List (List ℕ))
+        → IsVerify words rule.entry.file.now rule.entry.name.now rule.entry.reading certificate.now
+        → FetchesInOrder words B.fetch_gives (B.files shelf.old) shelf.old shelf.new }
     ensures shelf { Keeps (B.steady shelf.old) (B.steady shelf.new) (B.faults shelf.old) (B.faults shelf.new) (result ≡ Err Fault.Read) }
 {
     known();

@@ -1,3 +1,5 @@
+ghost use Rattle.std.specs.Prelude.{◌≡◌};
+
 use csn_io::{Got, MemShelf, MemSink, MemSource, Put, Shelf, ShelfFault, Sink, Source};
 use std::alloc::{AllocError, Global};
 use std::collections::BTreeMap;
@@ -44,29 +46,31 @@ fn a_source_fails_at_the_calls_that_are_listed(rt: HostRuntime) -> Result<(), Fa
     Ok(())
 }
 
+/// A put, a flush and a put, up to the first call that fails: how many went before the last one, and what that was answered.
+fn put_flush_put(sink: &mut MemSink) -> (u32, Put)
+    requires { ⟦<MemSink as Sink>⟧.faults sink.old ≡ 0 }
+{
+    match sink.put(b"ok .") {
+        Put::Took(_) => match sink.flush() {
+            Put::Took(_) => (2, sink.put(b".")),
+            flushed => (1, flushed),
+        },
+        put => (0, put),
+    }
+}
+
 #[test]
 fn a_sink_counts_puts_and_flushes_together(rt: HostRuntime) -> Result<(), Fail> {
-    let mut sink = MemSink::new(rt.alloc(), 3, vec![in rt.alloc(); 1, 4]?);
-    let answers = [
-        sink.put(b"ok ."),
-        sink.flush(),
-        sink.put(b"."),
-        sink.flush(),
-        sink.put(b"more"),
-    ];
-    assert_eq!(rt;
-        (answers, sink.taken()),
-        (
-            [
-                Put::Took(3),
-                Put::Failed,
-                Put::Took(1),
-                Put::Took(0),
-                Put::Failed
-            ],
-            b"ok .".as_slice()
-        )
-    );
+    for (failing, answer, taken) in [
+        (0, (0, Put::Failed), b"".as_slice()),
+        (1, (1, Put::Failed), b"ok ".as_slice()),
+        (2, (2, Put::Failed), b"ok ".as_slice()),
+        (3, (2, Put::Took(1)), b"ok .".as_slice()),
+    ] {
+        let mut sink = MemSink::new(rt.alloc(), 3, vec![in rt.alloc(); failing]?);
+        let came = put_flush_put(&mut sink);
+        assert_eq!(rt; (failing, came, sink.taken()), (failing, answer, taken));
+    }
     Ok(())
 }
 

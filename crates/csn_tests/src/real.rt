@@ -1,3 +1,5 @@
+ghost use Rattle.std.specs.Prelude.{◌<◌, length};
+
 use csn_io::{DirShelf, Got, Put, Shelf, ShelfFault, Sink, Source, StdSink, StdSource};
 use std::io::{self, ErrorKind, Read, Write};
 use std::test::Fail;
@@ -51,14 +53,33 @@ fn a_reader_fails_in_mid_stream(rt: HostRuntime) {
     assert_eq!(rt; answers, [Got::Bytes(1), Got::Failed, Got::End]);
 }
 
+/// What came of a put of these bytes, and of a flush behind it where the put did not fail, over a writer that has had so
+/// many calls.
+fn put_and_flushed(calls: u8, bytes: &[u8]) -> (Put, Option<Put>)
+    requires { 0 < length bytes.now }
+{
+    let mut sink = StdSink::new(Faltering { calls });
+    match sink.put(bytes) {
+        Put::Took(n) => (Put::Took(n), Some(sink.flush())),
+        put => (put, None),
+    }
+}
+
 #[test]
 fn a_writer_fails_in_mid_stream(rt: HostRuntime) {
-    let mut sink = StdSink::new(Faltering { calls: 0 });
-    // the second put takes nothing
-    let answers = [sink.put(b"ok"), sink.flush(), sink.put(b"k"), sink.flush()];
+    // Behind two calls a put takes nothing.
+    let answers = [
+        put_and_flushed(0, b"ok"),
+        put_and_flushed(1, b"ok"),
+        put_and_flushed(2, b"ok"),
+    ];
     assert_eq!(rt;
         answers,
-        [Put::Took(1), Put::Failed, Put::Failed, Put::Took(0)]
+        [
+            (Put::Took(1), Some(Put::Failed)),
+            (Put::Failed, None),
+            (Put::Failed, None),
+        ]
     );
 }
 

@@ -48,7 +48,7 @@ impl MemSink {
 }
 
 impl Sink for MemSink {
-    ghost use Rattle.csn_io.specs.MemSink.{AnswersAsPlanned, PutsAsPlanned};
+    ghost use Rattle.csn_io.specs.MemSink.{FlushesAsPlanned, PutsAsPlanned};
 
     ghost taken = { λ s. Some s.taken.items };
 
@@ -60,7 +60,7 @@ impl Sink for MemSink {
 
     ghost put_gives = { PutsAsPlanned };
 
-    ghost flush_gives = { AnswersAsPlanned };
+    ghost flush_gives = { FlushesAsPlanned };
 
     fn put(&mut self, piece: &[u8]) -> Put {
         if self.calls.next_fails() {

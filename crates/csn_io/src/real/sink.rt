@@ -1,7 +1,7 @@
 ghost use Rattle.std.specs.Prelude.{◌≡◌, ◌<◌, ◌≤◌, None, length, take};
 ghost use Rattle.std.specs.Io.KnownBytes.{Appends};
 ghost use Rattle.csn_io.specs.Faults.{Keeps, Rose};
-ghost use Rattle.csn_io.specs.Put.{IfTook, OnFailed};
+ghost use Rattle.csn_io.specs.Put.{IfTook, OnFailed, UnlessFailed};
 ghost use Rattle.csn_io.specs.Real.{WritesAsTold, FlushesAsTold};
 ghost use Rattle.csn_io.specs.declared.sink.Put.TheVariants.{Failed};
 
@@ -47,7 +47,8 @@ impl<W: Flushing> Sink for StdSink<W> {
 
     /// A write that takes nothing of the piece is a fault.
     fn put(&mut self, piece: &[u8]) -> Put
-        requires { 0 < length piece.now }
+        requires some { 0 < length piece.now }
+        requires unfailed { self.old.faults ≡ 0 }
 
         // The bytes that were written are the front of the piece, where the writer tells its own.
         ensures bytes { IfTook result (λ n. Appends (W.contents self.old.writer) (W.contents self.new.writer) (take n piece.now)) }
@@ -56,6 +57,7 @@ impl<W: Flushing> Sink for StdSink<W> {
         ensures at_least_one { IfTook result (λ n. 0 < n) }
         ensures within { IfTook result (λ n. n ≤ length piece.now) }
         ensures failed { OnFailed result (Rose self.old.faults self.new.faults) }
+        ensures no_fault { UnlessFailed result (self.new.faults ≡ self.old.faults) }
         ensures outside { Keeps ⊥ ⊥ self.old.faults self.new.faults (result ≡ Failed) }
         ensures gives { WritesAsTold (W.contents self.old.writer) (W.contents self.new.writer) result }
     {

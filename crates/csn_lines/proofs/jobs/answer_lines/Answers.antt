@@ -10,6 +10,7 @@ answer_all-requires g c = record {
   pending =
       c.requires.ready.pending;
   refused = c.requires.ready.refused;
+  unfailed = c.requires.unfailed;
 }
 
 pub returns-in_err-answer_all-clause-ok : goal.returns-in_err-answer_all-clause-ok

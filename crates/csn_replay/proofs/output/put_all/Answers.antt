@@ -1,6 +1,6 @@
-use Rattle.std.proofs.Common.{arith, refl, ◌∙◌}
+use Rattle.std.proofs.Common.{arith, refl, ◌∙◌, ap, length, length-drop}
 use Rattle.csn_replay.specs.declared.told.Told.TheVariants.{Ok, WriteFault}
-use Rattle.csn_replay.proofs.Puts.{broke_off, took_all, took_more, within_more, kept_on, leaves_on, leaves_still}
+use Rattle.csn_replay.proofs.Puts.{broke_off, took_all, took_more, within_more, slice_from, kept_on, leaves_on, leaves_still}
 use Rattle.csn_replay.proofs.Puts.{ok_is_no_fault, memory_is_no_fault, fault_is_not_ok, memory_is_not_ok}
 use Rattle.csn_replay.proofs.Puts.{took_has_not_failed, full_has_not_failed}
 use Rattle.csn_replay.proofs.output.put_all.Goals as goal
@@ -18,6 +18,12 @@ loop-passed-preserved g c =
       no_fault = c.in-Took.ensures.outside.2 took_has_not_failed ∙ c.loop-passed.invariant.no_fault;
       steady = λ was. (c.in-Took.ensures.outside.1 (c.loop-passed.invariant.steady was)).0;
     }
+
+pub put-requires : goal.put-requires
+put-requires g c = record {
+  some = omega (arith, ap length (slice_from c.loop-passed.passed c.args.text.now), length-drop c.loop-passed.passed c.args.text.now, c.loop-passed-test.true);
+  unfailed = c.loop-passed.invariant.no_fault ∙ c.requires.unfailed;
+}
 
 pub loop-passed-smaller : goal.loop-passed-smaller
 loop-passed-smaller g c = omega (arith, c.in-Took.ensures.at_least_one, c.loop-passed-test.true)

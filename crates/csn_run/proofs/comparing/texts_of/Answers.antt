@@ -1,5 +1,7 @@
-use Rattle.std.proofs.Common.{◌≡◌, Err, ap}
+use Rattle.std.proofs.Common.{◌≡◌, [], ◌∷◌, Err, refl, ap}
 use Rattle.csn_lines.specs.declared.fault.Fault.TheVariants.{TooLong}
+use Rattle.csn_command.specs.Command.{names_pair}
+use Rattle.csn_run.specs.Job.{fetches_first, fetches_second}
 use Rattle.csn_run.specs.Planned.{is_long_before, is_long_after}
 use Rattle.csn_lines.proofs.OutsideLemmas.{keeps_along}
 use Rattle.csn_run.proofs.PairLemmas.{same_fault}
@@ -42,3 +44,15 @@ returns-in-Err-clause-missing g c = λ lacks. same_fault c.in-Err.fault (c.in-Er
 
 pub returns-in-Err-description-clause-not_write : goal.returns-in-Err-description-clause-not_write
 returns-in-Err-description-clause-not_write g c = λ e. c.in-Err-description.ensures.not_write (ap Err (the_fault e))
+
+pub returns-in-Err-clause-fetched : goal.returns-in-Err-clause-fetched
+returns-in-Err-clause-fetched g c = λ words row.
+    fetches_first c.args.pair.before.now (c.args.pair.after.now ∷ []) (names_pair _ _ _ _ row refl) c.in-Err.ensures.fetched
+
+pub returns-in-Ok-description-clause-fetched : goal.returns-in-Ok-description-clause-fetched
+returns-in-Ok-description-clause-fetched g c = λ words row.
+    fetches_second _ _ _ c.in-Ok.text.items _ _ row c.in-Ok.ensures.given c.in-Ok-description.ensures.fetched
+
+pub returns-in-Err-description-clause-fetched : goal.returns-in-Err-description-clause-fetched
+returns-in-Err-description-clause-fetched g c = λ words row.
+    fetches_second _ _ _ c.in-Ok.text.items _ _ row c.in-Ok.ensures.given c.in-Err-description.ensures.fetched

@@ -12,7 +12,7 @@ pub refuse-requires : goal.refuse-requires
 refuse-requires g c = c.requires.ready.pending
 
 pub answer_by_plan-requires : goal.answer_by_plan-requires
-answer_by_plan-requires g c = record { ready = c.requires.ready }
+answer_by_plan-requires g c = record { ready = c.requires.ready; unfailed = c.requires.unfailed }
 
 pub returns-in-Err : goal.returns-in-Err
 returns-in-Err g c = record {

@@ -37,7 +37,7 @@ returns-in_default g c = record {
 }
 
 pub answer_captures-requires : goal.answer_captures-requires
-answer_captures-requires g c = record { begin = c.in-Ok-new.ensures.reads; ready = c.requires.ready }
+answer_captures-requires g c = record { begin = c.in-Ok-new.ensures.reads; ready = c.requires.ready; unfailed = c.requires.unfailed }
 
 pub returns-clause-ends : goal.returns-clause-ends
 returns-clause-ends g c = λ words files row.

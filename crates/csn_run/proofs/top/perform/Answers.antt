@@ -25,7 +25,7 @@ returns-in-Report g c = record {
 }
 
 pub answer_by_rule-requires : goal.answer_by_rule-requires
-answer_by_rule-requires g c = record { ready = c.requires.ready }
+answer_by_rule-requires g c = record { ready = c.requires.ready; unfailed = c.requires.unfailed }
 
 pub returns-in-Answer : goal.returns-in-Answer
 returns-in-Answer g c = record {
@@ -67,7 +67,7 @@ returns-in-Migrate g c =
     }
 
 pub answer_segments-requires : goal.answer_segments-requires
-answer_segments-requires g c = record { ready = c.requires.ready }
+answer_segments-requires g c = record { ready = c.requires.ready; unfailed = c.requires.unfailed }
 
 pub returns-in-Segments : goal.returns-in-Segments
 returns-in-Segments g c = record {
@@ -81,7 +81,7 @@ returns-in-Segments g c = record {
 }
 
 pub answer_replay-requires : goal.answer_replay-requires
-answer_replay-requires g c = record { ready = c.requires.ready }
+answer_replay-requires g c = record { ready = c.requires.ready; unfailed = c.requires.unfailed }
 
 pub returns-in-Replay : goal.returns-in-Replay
 returns-in-Replay g c = record {
@@ -116,7 +116,7 @@ returns-in-Compat g c = record {
   read = λ e words row. inr (c.compare_files.ensures.read e words (rw c.in-Compat.is at row));
   files =
       λ words row. asks_pair (g.B.Shelf.fetch_gives) (g.B.Shelf.files c.args.shelf.now) _ _ (rw c.in-Compat.is at row)
-      c.compare_files.ensures.fetched
+      (c.compare_files.ensures.fetched words (rw c.in-Compat.is at row))
       (λ file comes lacks. lacking_alone (c.compare_files.ensures.missing words file (rw c.in-Compat.is at row)
       comes lacks));
   shelf = c.compare_files.ensures.shelf;
@@ -133,7 +133,7 @@ returns-in-Verify g c = record {
   read = λ e words row. inr (c.verify_file.ensures.read e words (rw c.in-Verify.is at row));
   files =
       λ words row. asks_certificate (g.B.Shelf.fetch_gives) (g.B.Shelf.files c.args.shelf.now) _ _
-      (rw c.in-Verify.is at row) c.verify_file.ensures.fetched
+      (rw c.in-Verify.is at row) (c.verify_file.ensures.fetched words (rw c.in-Verify.is at row))
       (λ file comes lacks. lacking_alone (c.verify_file.ensures.missing words file (rw c.in-Verify.is at row)
       comes lacks));
   shelf = c.verify_file.ensures.shelf;

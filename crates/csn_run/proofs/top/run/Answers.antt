@@ -1,4 +1,6 @@
-use Rattle.std.proofs.Common.{inl, inr, refl, ap, sym, ◌∙◌, [], Some, is_some, append-nil}
+use Rattle.std.proofs.Common.{inl, inr, refl, ap, sym, ◌∙◌, subst, map, [], Some, is_some, append-nil}
+use Rattle.std.specs.String.{string_bytes}
+use Rattle.csn_run.specs.Job.{EndsUnread}
 use Rattle.csn_run.specs.Result.{begins_none, nothing_read}
 use Rattle.csn_io.proofs.Told.{rose_early, rose_late}
 use Rattle.csn_run.proofs.CommandLemmas.{no_row, row_named, comes_named, row_read, command_read}
@@ -16,34 +18,37 @@ use Rattle.csn_run.proofs.top.run.Goals as goal
 
 pub returns-in-Err : goal.returns-in-Err
 returns-in-Err g c =
-    let unread = c.in-Err.ensures.unread in
+    let is = c.end_unread.ensures.end in
+    let unread = subst (EndsUnread (map string_bytes c.args.words.now)) (sym is) c.in-Err.ensures.unread in
     record {
       usage = unread_usage unread;
       row = unread_row unread;
       usage_shelf = λ e. refl;
       usage_input = λ e. refl;
-      usage_out = λ e. refl;
+      usage_out = λ e. c.end_unread.ensures.usage (sym is ∙ e);
       result = λ finished. absurd (unread_finished unread finished);
-      begins = λ used files whole before f s k. ([], k ∙ ap Some (sym (append-nil before)), begins_none refl);
+      begins = λ used files whole before f s k. ([], c.end_unread.ensures.taken_stays ∙ k ∙ ap Some (sym (append-nil before)), begins_none refl);
       reading = λ e. absurd (unread_as unread e);
-      prompt = λ used files whole before f s k. ([], k ∙ ap Some (sym (append-nil before)), nothing_read s);
+      prompt = λ used files whole before f s k. ([], c.end_unread.ensures.taken_stays ∙ k ∙ ap Some (sym (append-nil before)), nothing_read s);
       input_read = λ answered. absurd (unread_answered unread answered);
       before_lines = λ ended. refl;
       no_lines = λ never. refl;
       no_job = λ files written ended f before. refl;
       bounded = λ whole rest s left. as_before whole rest (sym s ∙ left);
       no_file = λ none. refl;
-      fetched = λ files names. inr (unread_wanting unread (row_named names), refl);
+      fetched = λ file named. inr (unread_wanting unread (row_named named.2), refl);
       one_tree = λ answered. absurd (unread_answered unread answered);
       blocks_stay = λ e. absurd (unread_as unread e);
-      missing = λ file comes lacks. (refl, refl, inr (inr (unread_wanting unread (row_named (comes_named _ comes).2))));
+      missing = λ file comes lacks. (refl, c.end_unread.ensures.taken_stays, inr (inr (unread_wanting unread (row_named (comes_named _ comes).2))));
       complete = λ row no_source no_sink no_file. inr (unread_wanting unread row);
       read_fault = λ e. absurd (unread_as unread e);
       write_fault = λ e. absurd (unread_as unread e);
       flushed = λ used no_write no_memory. absurd (no_memory (unread_wanting unread (unread_row unread used)));
+      flushes = λ used no_write. c.end_unread.ensures.flushes (λ e. used (is ∙ e));
       shelf = keeps_still;
       input = keeps_still;
-      out = keeps_still;
+      out = keeps_along (λ used. inr (inr (unread_wanting unread (unread_row unread (λ e. used (sym is ∙ e))))))
+          c.end_unread.ensures.out;
     }
 
 pub unreachable-requires : goal.unreachable-requires
@@ -60,8 +65,12 @@ perform-outcome-requires g c =
         refused =
             c.new-lines.ensures.refused;
       };
+      unfailed = c.requires.unfailed;
       row = (_, c.in-Some.ensures.names);
     }
+
+pub finish-requires : goal.finish-requires
+finish-requires g c = record { unfailed = λ no_write. c.perform-outcome.ensures.streams.out.2 no_write ∙ c.requires.unfailed }
 
 pub returns-clause-usage : goal.returns-clause-usage
 returns-clause-usage g c = (
@@ -94,9 +103,9 @@ returns-clause-usage_out g c =
 
 pub returns-clause-fetched : goal.returns-clause-fetched
 returns-clause-fetched g c =
-    λ files names. inl
+    λ file named. inl
     ((c.perform-outcome.ensures.files _ (row_read c.in-Some.command c.deref.ensures.value c.in-Ok.ensures.words
-    c.in-Some.ensures.names)).fetched files names)
+    c.in-Some.ensures.names)).fetched file named)
 
 pub returns-clause-no_lines : goal.returns-clause-no_lines
 returns-clause-no_lines g c =
@@ -249,3 +258,6 @@ returns-clause-no_file g c =
 
 pub returns-clause-flushed : goal.returns-clause-flushed
 returns-clause-flushed g c = λ used no_write no_memory. c.finish.ensures.flushed no_write no_memory
+
+pub returns-clause-flushes : goal.returns-clause-flushes
+returns-clause-flushes g c = λ used no_write. c.finish.ensures.flushes no_write

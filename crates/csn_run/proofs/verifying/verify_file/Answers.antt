@@ -1,10 +1,12 @@
-use Rattle.std.proofs.Common.{◌≡◌, Err, inl, inr, ap}
+use Rattle.std.proofs.Common.{◌≡◌, [], ◌∷◌, Err, inl, inr, refl, ap}
 use Rattle.csn_lines.specs.declared.fault.Fault.TheVariants.{Read}
 use Rattle.csn_run.proofs.JobLemmas.{refused_read}
 use Rattle.csn_run.proofs.PairLemmas.{same_fault}
 use Rattle.csn_run.proofs.VerifyLemmas.{certificate_ends, comes_behind, comes_description, fault_ends}
 use Rattle.csn_run.proofs.VerifyLemmas.{lacks_certificate, refused_ends, refused_lacks, same_why}
 use Rattle.csn_lines.proofs.Blames.{ok_not_err}
+use Rattle.csn_command.specs.Command.{names_certificate}
+use Rattle.csn_run.specs.Job.{fetches_first, fetches_certificate}
 use Rattle.csn_run.proofs.Apart.{the_fault}
 use Rattle.csn_run.proofs.verifying.verify_file.Goals as goal
 
@@ -59,3 +61,17 @@ returns-clause-missing g c = λ words file row comes lacks. (
       ]))),
   c.requires.pending,
 )
+
+pub returns-in-Err-clause-fetched : goal.returns-in-Err-clause-fetched
+returns-in-Err-clause-fetched g c = λ words row.
+    fetches_first c.args.rule.file.now (c.args.certificate.now ∷ []) (names_certificate _ _ _ _ row refl) c.in-Err.ensures.fetched
+
+pub returns-in-Ok-whole_file-clause-fetched : goal.returns-in-Ok-whole_file-clause-fetched
+returns-in-Ok-whole_file-clause-fetched g c = λ words row.
+    let given = c.in-Ok.ensures.given in
+    fetches_certificate _ _ _ given.0 _ given.1 _ _ row given.2 given.3 given.4 c.in-Ok-whole_file.ensures.fetched
+
+pub returns-clause-fetched : goal.returns-clause-fetched
+returns-clause-fetched g c = λ words row.
+    let given = c.in-Ok.ensures.given in
+    fetches_certificate _ _ _ given.0 _ given.1 _ _ row given.2 given.3 given.4 c.in-Err-whole_file.ensures.fetched

@@ -65,6 +65,7 @@ pieces-preserved g c =
       work = c.in_ok-pass_piece-in-Bytes-2.ensures.work ∙ c.pieces.invariant.work;
       input = keeps_then c.pieces.invariant.input (keeps_quiet (λ e. cc) c.take_piece.ensures.outside);
       out = keeps_then c.pieces.invariant.out (keeps_quiet (λ e. cc) c.in_ok-pass_piece-in-Bytes-2.ensures.out);
+      unfailed = c.in_ok-pass_piece-in-Bytes-2.ensures.out.2 (λ e. cc) ∙ c.pieces.invariant.unfailed;
     }
 
 pub returns-in_err-end_input-in-End-clause-err : goal.returns-in_err-end_input-in-End-clause-err

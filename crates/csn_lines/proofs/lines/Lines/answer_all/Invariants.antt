@@ -15,6 +15,7 @@ invariant-pieces g l = record {
   work : g.C.LineCommand.work l.command ≡ g.C.LineCommand.work l.fn.command;
   input : Keeps (g.S.Source.steady l.fn.input) (g.S.Source.steady l.input) (g.S.Source.faults l.fn.input) (g.S.Source.faults l.input) ⊥;
   out : Keeps (g.K.Sink.steady l.fn.out) (g.K.Sink.steady l.out) (g.K.Sink.faults l.fn.out) (g.K.Sink.faults l.out) ⊥;
+  unfailed : g.K.Sink.faults l.out ≡ 0;
 }
 
 abbrev pub decreases-pieces : goal.decreases-pieces

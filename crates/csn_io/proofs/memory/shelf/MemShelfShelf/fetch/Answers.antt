@@ -9,7 +9,7 @@ returns-in_default-clause-missing c =
 
 pub returns-in_default-clause-gives : goal.returns-in_default-clause-gives
 returns-in_default-clause-gives c =
-    record { held = tt; due = tt; in_range = tt; not_due = tt; counted = c.next_fails-fails.ensures.counted }
+    record { held = tt; due = tt; in_range = tt; not_due = tt; at_most = tt; counted = c.next_fails-fails.ensures.counted }
 
 pub returns-then-fails-clause-failed_not_missing : goal.returns-then-fails-clause-failed_not_missing
 returns-then-fails-clause-failed_not_missing c = held_there (λ file. file.items) _ _ (sym c.get.ensures.value ∙ ap option_copied c.in-Some.is)
@@ -22,5 +22,5 @@ returns-then-fails-clause-steady_not_failed c = λ none. never_due _ _ (c.next_f
 
 pub returns-then-fails-clause-gives : goal.returns-then-fails-clause-gives
 returns-then-fails-clause-gives c =
-    fails_due _ _ _ (held_there (λ file. file.items) _ _ (sym c.get.ensures.value ∙ ap option_copied c.in-Some.is)) c.next_fails-fails.ensures.counted
+    fails_due _ _ _ _ (held_there (λ file. file.items) _ _ (sym c.get.ensures.value ∙ ap option_copied c.in-Some.is)) c.next_fails-fails.ensures.counted
     (c.next_fails-fails.ensures.due.0 c.if-fails.true) (c.next_fails-fails.ensures.in_range c.if-fails.true)
