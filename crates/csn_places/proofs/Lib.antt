@@ -1,0 +1,4 @@
+pub mod VoidFacts
+pub mod Given
+pub mod WalkFacts
+pub mod Found
