@@ -1,0 +1,9 @@
+pub mod NumberFacts
+pub mod PlaceFacts
+pub mod TellingTrees
+pub mod TrackFacts
+pub mod FollowerFacts
+pub mod ReadingFacts
+pub mod LyingAlong
+pub mod ListFacts
+pub mod OneList

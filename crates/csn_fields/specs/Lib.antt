@@ -1,0 +1,10 @@
+pub mod Leaves
+pub mod Events
+pub mod Numbers
+pub mod Places
+pub mod Tracks
+pub mod Telling
+pub mod Follower
+pub mod Reading
+pub mod Lists
+pub mod Laws
