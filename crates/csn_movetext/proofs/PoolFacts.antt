@@ -34,7 +34,7 @@ bytes_all_kept pool more (place ∷ places) are =
     ap (λ x. x ∷ map (bytes_at (pool ++ more)) places) (bytes_kept pool more place (are 0 place refl))
     ∙ ap (λ l. bytes_at pool place ∷ l) (bytes_all_kept pool more places (λ i p at. are (suc i) p at))
 
-map-push : {X Y : Type 0} (f : X → Y) (xs : List X) (x : X) → map f (xs ++ x ∷ []) ≡ map f xs ++ f x ∷ []
+pub map-push : {X Y : Type 0} (f : X → Y) (xs : List X) (x : X) → map f (xs ++ x ∷ []) ≡ map f xs ++ f x ∷ []
 map-push f [] x = refl
 map-push f (y ∷ xs) x = ap (λ l. f y ∷ l) (map-push f xs x)
 

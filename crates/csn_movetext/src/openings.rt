@@ -1,7 +1,8 @@
-ghost use Rattle.std.specs.Prelude.{◌≡◌, ◌<◌, ◌++◌, ◌∷◌, [], length, slice_get, Some, OnOk, IfOk, option_copied};
+ghost use Rattle.std.specs.Prelude.{◌≡◌, ◌<◌, ◌++◌, ◌∷◌, [], length, slice_get, Some, IsTrue, OnOk, IfOk, IfSome, option_copied};
 ghost use Rattle.csn_desc.specs.Label.{IsLabel};
 ghost use Rattle.csn_json.specs.Forms.{label_text, leaf_opening, mark_text, nothing_text};
 ghost use Rattle.csn_movetext.specs.Openings.{AreOpened, AreTemplates, HasLabel, HasOpenings, node_opening, opening_in, opening_of};
+ghost use Rattle.csn_movetext.specs.Pool.{IsWithin, bytes_at};
 ghost use Rattle.csn_movetext.specs.Templates.{template_at};
 
 use crate::alternatives::alternatives;
@@ -16,6 +17,12 @@ use csn_json::TreeForm;
 use std::alloc::Global;
 use std::marker::{Brand, Model};
 use std::sync::ledger::{Blank, Ledger};
+
+/// An opening of so many bytes is looked for among those that were written before.
+const LONG: usize = 256;
+
+/// Among so many of them.
+const MOST_LONG: usize = 1024;
 
 /// What each node of a plan writes of its tree in a form where it begins, and the templates of those that are written at
 /// once. A contract sees the form, and the lists of these texts and of the templates.
@@ -94,10 +101,12 @@ impl Openings {
         Openings { templates, ..self }
     }
 
-    /// That of a node behind the others, with its number where it is an alternative. It is made in `opening`.
+    /// That of a node behind the others, with its number where it is an alternative. It is made in `opening`, and `long`
+    /// has the places of the long ones.
     fn add(
         &mut self,
         opening: &mut Vec<u8>,
+        long: &mut Vec<Place>,
         form: TreeForm,
         number: Option<u16>,
         node: &Node,
@@ -112,11 +121,28 @@ impl Openings {
     {
         opening.clear();
         push_opening(opening, form, number, node)?;
-        self.push(opening.as_slice())
+        self.push(opening.as_slice(), long)
     }
 
-    /// One more behind the others.
-    fn push(&mut self, opening: &[u8]) -> Result<(), NoMemory>
+    /// One more behind the others. A long one that is among the last long ones is not written again.
+    fn push(&mut self, opening: &[u8], long: &mut Vec<Place>) -> Result<(), NoMemory>
+        ensures { OnOk result (self.new ≡ record { form = self.old.form; texts = self.old.texts ++ opening.now ∷ []; templates = self.old.templates }) }
+    {
+        if opening.len() < LONG {
+            let _place = self.write(opening)?;
+            return Ok(());
+        }
+        match place_of(self.pool.as_slice(), long.as_slice(), opening) {
+            Some(place) => Ok(self.places.push(place)?),
+            None => {
+                let place = self.write(opening)?;
+                Ok(long.push(place)?)
+            }
+        }
+    }
+
+    /// One more behind the others, written into the pool: its place there.
+    fn write(&mut self, opening: &[u8]) -> Result<Place, NoMemory>
         ensures { OnOk result (self.new ≡ record { form = self.old.form; texts = self.old.texts ++ opening.now ∷ []; templates = self.old.templates }) }
     {
         let start = self.pool.len();
@@ -129,8 +155,38 @@ impl Openings {
             start: start as u32,
             end: end as u32,
         };
-        Ok(self.places.push(place)?)
+        self.places.push(place)?;
+        Ok(place)
     }
+}
+
+/// Whether a text stands at a place.
+fn stands_at(pool: &[u8], place: Place, text: &[u8]) -> bool
+    ensures { IsTrue result → IsWithin pool.now place × (bytes_at pool.now place ≡ text.now) }
+{
+    let start = place.start as usize;
+    let end = place.end as usize;
+    if start > end {
+        return false;
+    }
+    if end > pool.len() {
+        return false;
+    }
+    &pool[start..end] == text
+}
+
+/// One of the last places at which a text stands, if there is one.
+fn place_of(pool: &[u8], places: &[Place], text: &[u8]) -> Option<Place>
+    ensures { IfSome result (λ place. IsWithin pool.now place × (bytes_at pool.now place ≡ text.now)) }
+{
+    let first = places.len().saturating_sub(MOST_LONG);
+    for at in (first..places.len()).rev() {
+        let place = places[at];
+        if stands_at(pool, place, text) {
+            return Some(place);
+        }
+    }
+    None
 }
 
 /// The openings of a plan, with a counter of steps.
@@ -176,9 +232,10 @@ fn bare_openings<L: Ledger>(
         templates: Vec::new(alloc),
     };
     let mut opening = Vec::new(alloc);
+    let mut long = Vec::new(alloc);
     for i in 0..plan.len() {
         let node = plan.node(i, steps);
-        openings.add(&mut opening, form, numbers[usize::from(i)], node)?;
+        openings.add(&mut opening, &mut long, form, numbers[usize::from(i)], node)?;
     }
     Ok(openings)
 }
