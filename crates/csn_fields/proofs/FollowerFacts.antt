@@ -1,9 +1,9 @@
 -- A judge that follows another one.
 use Rattle.std.specs.Prelude.{⊤}
-use Rattle.std.proofs.Common.{◌≡◌, ℕ, ◌+◌, ◌-◌, ◌<◌, ◌≤◌, List, [], ◌++◌, length, take, min, refl, sym, ap, subst}
+use Rattle.std.proofs.Common.{◌≡◌, ℕ, ◌+◌, ◌-◌, ◌*◌, ◌<◌, ◌≤◌, List, [], ◌++◌, length, take, min, refl, sym, ap, subst}
 use Rattle.std.proofs.Common.{◌∙◌, arith, append-nil, length-append}
 use Rattle.std.proofs.Common.{Option, Some, None}
-use Rattle.std.proofs.Math.Nat.{min-eq_left}
+use Rattle.std.proofs.Math.Nat.{min-eq_left, mul-le-mul_left}
 use Rattle.std.proofs.Math.Seq.{take-append-add, take-length}
 use Rattle.std.proofs.lemmas.List.{take-append-le, take-take, take_all, length-take-le}
 use Rattle.csn_desc.specs.declared.moves.Move.{Move}
@@ -266,3 +266,17 @@ fresh ahead judge same for none follows going =
       going = going;
       judge = subst (λ r. JudgesFor judge (front_of r []) []) (sym none) follows;
     }
+
+-- ---- steps
+
+-- what is paid for by some bits pays for both judges
+pub both_pay : (nodes bits told before middle after ahead ahead_on judge judge_on : ℕ) → told ≤ bits
+    → middle + ahead_on ≤ before + ahead + 8 * nodes * bits → after + judge_on ≤ middle + judge + 8 * nodes * told
+    → after + (ahead_on + judge_on) ≤ before + (ahead + judge) + 16 * nodes * bits
+both_pay nodes bits told before middle after ahead ahead_on judge judge_on few first second =
+    let more : 8 * nodes * told ≤ 8 * nodes * bits = mul-le-mul_left (8 * nodes) few in
+    let twice : 16 * nodes * bits ≡ 8 * nodes * bits + 8 * nodes * bits = doubled nodes bits in
+    omega (arith, few, first, second, more, twice)
+  where
+    doubled : (n b : ℕ) → 16 * n * b ≡ 8 * n * b + 8 * n * b
+    doubled n b = omega arith

@@ -25,7 +25,7 @@ use Rattle.csn_fields.specs.Events.{events_node, inside_null, inside_seq}
 use Rattle.csn_fields.specs.Events.{inside_trunc, inside_choice, inside_times, inside_many, inside_window, inside_named}
 use Rattle.csn_fields.specs.Events as spec
 use Rattle.csn_fields.specs.Lists.{leaves_in}
-use Rattle.csn_fields.specs.Laws.{LieAlong, LeavesLieAlong, BlocksAreTiled}
+use Rattle.csn_fields.specs.Laws.{LieAlong, LeavesLieAlong, BlocksAreTiled, FrontsLieAlong}
 
 leaves_in-append : (a b : List Event) → leaves_in (a ++ b) ≡ leaves_in a ++ leaves_in b
 leaves_in-append [] b = refl
@@ -195,3 +195,29 @@ leaves_along d i from to role v b t events means are = (node_along d are means).
 
 pub blocks_tiled : BlocksAreTiled
 blocks_tiled d b events are = (node_along d are.events_are are.means).along
+
+-- the first of some leaves lie along the first bits
+record Front (place : ℕ) (w : List ℕ) (xs : List Leaf) : Type 0 where
+  pub front : List ℕ
+  pub back : List ℕ
+  pub cut : w ≡ front ++ back
+  pub along : LieAlong place front xs
+
+along_front : (place : ℕ) (w : List ℕ) (xs ys : List Leaf) → LieAlong place w (xs ++ ys) → Front place w xs
+along_front place w [] ys h = record { front = []; back = w; cut = refl; along = refl }
+along_front place w (leaf ∷ xs) ys (b1, b2, parts, at, long, number, rest) =
+    let f = along_front (place + length b1) b2 xs ys rest in
+    record {
+      front = b1 ++ f.front;
+      back = f.back;
+      cut = parts ∙ ap (λ l. b1 ++ l) f.cut ∙ sym (append_assoc b1 f.front f.back);
+      along = (b1, f.front, refl, at, long, number, f.along);
+    }
+
+pub fronts_along : FrontsLieAlong
+fronts_along d b later tree events begin few means =
+    let all = begin later tree few means in
+    let lie : LieAlong 0 (b ++ later) (leaves_in (events ++ all.0)) = (node_along d all.1 means).along in
+    let P : List Leaf → Type 0 = λ l. LieAlong 0 (b ++ later) l in
+    let f = along_front 0 (b ++ later) (leaves_in events) (leaves_in all.0) (subst P (leaves_in-append events all.0) lie) in
+    (f.front, f.back, f.cut, f.along)

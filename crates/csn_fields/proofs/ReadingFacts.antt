@@ -255,6 +255,7 @@ ends_none tells known f places b events old new refusal still within ends t =
               around = opened f.judge;
               last = record { places = places; events = events };
               told = t.told;
+              events_are = refl;
               within_is = within;
             },
           );

@@ -1,17 +1,20 @@
 -- The events of a tree: its nodes in the order of their bits, each with what it is of the node round it. A leaf is one
 -- event, which has its bits; each other node has an event where it begins and one where it ends, with those of its parts
 -- between them. (This project's own choice; the nodes are the constructs of 3GPP TS 24.007 Annex B.)
-use Rattle.std.specs.Prelude.{◌≡◌, ℕ, suc, ◌+◌, ◌≤◌, nat_lt, if◌then◌else◌, List, [], ◌∷◌, ◌++◌, length}
+use Rattle.std.specs.Prelude.{refl, ◌≡◌, ℕ, suc, ◌+◌, ◌≤◌, nat_lt, if◌then◌else◌, List, [], ◌∷◌, ◌++◌, length}
 use Rattle.std.specs.Prelude.{slice_get, Some}
 use Rattle.csn_bits.specs.Octets.{most_bits}
+use Rattle.csn_desc.specs.declared.reading.Reading.TheVariants.{Received}
+use Rattle.csn_desc.specs.declared.symbol.Symbol.TheVariants.{Zero, One}
 use Rattle.csn_desc.specs.declared.node.Count.{Count}
+use Rattle.csn_desc.specs.declared.node.Count.TheVariants.{Fixed}
 use Rattle.csn_desc.specs.declared.node.Node.{Node}
-use Rattle.csn_desc.specs.declared.node.Node.TheVariants.{Null, Seq, Choice, Times}
-use Rattle.csn_desc.specs.declared.node.Node.TheVariants.{Many, Trunc, Window, Named}
-use Rattle.csn_desc.specs.TreeV.{TreeV, empty, row, alt, named, Trees, none, more}
+use Rattle.csn_desc.specs.declared.node.Node.TheVariants.{Lits, Null, Field, Seq, Choice, Times, Many, Trunc, Window, Named}
+use Rattle.csn_desc.specs.TreeV.{TreeV, empty, bits, row, alt, named, Trees, none, more}
 use Rattle.csn_desc.specs.Nodes.{DescV}
 use Rattle.csn_desc.specs.Means.{NMeans}
 use Rattle.csn_fields.specs.declared.leaf.LeafKind.{LeafKind}
+use Rattle.csn_fields.specs.declared.leaf.LeafKind.TheVariants as kind
 use Rattle.csn_fields.specs.declared.leaf.Role.{Role}
 use Rattle.csn_fields.specs.declared.leaf.Role.TheVariants.{Root, Part, Alternative, Turn}
 use Rattle.csn_fields.specs.declared.leaf.Leaf.{Leaf}
@@ -113,3 +116,42 @@ abbrev pub BeginEvents : DescV → List ℕ → List Event → Type 0
 BeginEvents d b events =
     (later : List ℕ) (tree : TreeV) → length (b ++ later) ≤ most_bits → NMeans d 0 0 [] (b ++ later) tree
     → (rest : List Event) × EventsAt d 0 Root 0 (length (b ++ later)) tree (events ++ rest)
+
+-- ---- examples
+
+-- the bit 1, and behind it a field of two bits
+abbrev word_and_field : DescV
+word_and_field = record { reading = Received; nodes = Seq (1 ∷ 2 ∷ []) ∷ Lits (One ∷ []) ∷ Field 1 (Fixed 2) ∷ [] }
+
+abbrev word_leaf : Event
+word_leaf = event.Leaf (leaf_with 1 kind.Literal Part 0 (1 ∷ []))
+
+abbrev field_leaf : Event
+field_leaf = event.Leaf (leaf_with 2 kind.Field Part 1 (1 ∷ 0 ∷ []))
+
+pub two_leaves :
+    EventsAt word_and_field 0 Root 0 3 (row (more empty (more (bits (1 ∷ 0 ∷ [])) none)))
+    (event.Begin 0 Root 0 ∷ word_leaf ∷ field_leaf ∷ event.End 0 3 ∷ [])
+two_leaves =
+    events_node (Seq (1 ∷ 2 ∷ [])) (word_leaf ∷ field_leaf ∷ []) refl
+    (inside_seq
+    (parts_next 1 (word_leaf ∷ []) (field_leaf ∷ []) refl
+    (events_leaf (Lits (One ∷ [])) kind.Literal (1 ∷ []) refl refl refl refl refl)
+    (parts_next 3 (field_leaf ∷ []) [] refl
+    (events_leaf (Field 1 (Fixed 2)) kind.Field (1 ∷ 0 ∷ []) refl refl refl refl refl) (parts_end refl refl))))
+    refl
+
+-- any number of bits, each the word 0 or the word 1
+abbrev turns_of_words : DescV
+turns_of_words =
+    record { reading = Received; nodes = Many 1 ∷ Choice (2 ∷ 3 ∷ []) ∷ Lits (Zero ∷ []) ∷ Lits (One ∷ []) ∷ [] }
+
+-- its second turn, from the place 1 on, takes the alternative 1
+abbrev second_turn : List Event
+second_turn =
+    event.Begin 1 (Turn 1) 1 ∷ event.Leaf (leaf_with 3 kind.Literal (Alternative 1) 1 (1 ∷ [])) ∷ event.End 1 2 ∷ []
+
+pub second_alternative : EventsAt turns_of_words 1 (Turn 1) 1 2 (alt 1 empty) second_turn
+second_alternative =
+    events_node (Choice (2 ∷ 3 ∷ [])) (event.Leaf (leaf_with 3 kind.Literal (Alternative 1) 1 (1 ∷ [])) ∷ []) refl
+    (inside_choice 3 refl (events_leaf (Lits (One ∷ [])) kind.Literal (1 ∷ []) refl refl refl refl refl)) refl

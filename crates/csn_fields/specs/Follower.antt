@@ -1,6 +1,6 @@
 -- Two judges of one block, of which one goes ahead: the moves of the other are told for bits alone that can be followed.
 -- (This project's own choice.)
-use Rattle.std.specs.Prelude.{◌≡◌, ℕ, ◌-◌, ◌<◌, ◌≤◌, List, [], ◌++◌, length, take, min, Option, Some, None}
+use Rattle.std.specs.Prelude.{◌≡◌, ℕ, ◌+◌, ◌-◌, ◌<◌, ◌≤◌, List, [], ◌++◌, length, take, min, Option, Some, None}
 use Rattle.csn_desc.specs.declared.moves.Move.{Move}
 use Rattle.csn_desc.specs.Nodes.{DescV}
 use Rattle.csn_desc.specs.Follows.{NFollow, IsPlace}
@@ -10,6 +10,7 @@ use Rattle.csn_judge.specs.declared.verdict.Judged.{Judged}
 use Rattle.csn_judge.specs.declared.verdict.Judged.TheVariants.{Ok, Refused as no_string}
 use Rattle.csn_judge.specs.Remains.{IsBlock}
 use Rattle.csn_judge.specs.Judging.{JudgeV, JudgesFor, opened}
+use Rattle.csn_judge.specs.Judging as judging
 use Rattle.csn_judge.specs.Following.{IsNoString}
 use Rattle.csn_fields.specs.declared.follower.Follower.TheInside.{Inside}
 
@@ -32,6 +33,10 @@ pub record IsFollower (f : Inside) : Type 0 where
   pub refused_is : f.refused ≡ f.ahead.refused
   pub behind : f.judge.seen ≤ f.ahead.seen
   pub few : f.ahead.seen ≤ 524288
+
+-- the steps that are paid for by the bits so far and not taken yet: those of both judges
+abbrev pub credit : FollowerV → ℕ
+credit f = judging.credit f.ahead + judging.credit f.judge
 
 -- how many bits of a piece are told, where so many had come before it
 abbrev pub told_of : Option ℕ → ℕ → ℕ → Verdict → ℕ

@@ -1,5 +1,6 @@
 -- Laws over the events of blocks.
-use Rattle.std.specs.Prelude.{◌≡◌, ℕ, ◌+◌, List, [], ◌∷◌, ◌++◌, length}
+use Rattle.std.specs.Prelude.{◌≡◌, ℕ, ◌+◌, ◌≤◌, List, [], ◌∷◌, ◌++◌, length}
+use Rattle.csn_bits.specs.Octets.{most_bits}
 use Rattle.csn_desc.specs.TreeV.{TreeV}
 use Rattle.csn_desc.specs.Nodes.{DescV}
 use Rattle.csn_desc.specs.Values.{Values}
@@ -8,7 +9,7 @@ use Rattle.csn_fields.specs.declared.leaf.Role.{Role}
 use Rattle.csn_fields.specs.declared.leaf.Leaf.{Leaf}
 use Rattle.csn_fields.specs.declared.event.Event.{Event}
 use Rattle.csn_fields.specs.Leaves.{number_in}
-use Rattle.csn_fields.specs.Events.{EventsAt, AreEvents}
+use Rattle.csn_fields.specs.Events.{EventsAt, AreEvents, BeginEvents}
 use Rattle.csn_fields.specs.Lists.{leaves_in}
 
 -- the leaves lie one behind another from a place on, each has the next of these bits, and together they have them all
@@ -35,3 +36,10 @@ TreesHaveOneListOfEvents =
 -- the leaves of a block lie along it
 abbrev pub BlocksAreTiled : Type 0
 BlocksAreTiled = (d : DescV) (b : List ℕ) (events : List Event) → AreEvents d b events → LieAlong 0 b (leaves_in events)
+
+-- the leaves that are told of a refused block lie along the first bits of each block that goes on from its place
+abbrev pub FrontsLieAlong : Type 0
+FrontsLieAlong =
+    (d : DescV) (b later : List ℕ) (tree : TreeV) (events : List Event)
+    → BeginEvents d b events → length (b ++ later) ≤ most_bits → NMeans d 0 0 [] (b ++ later) tree
+    → (front : List ℕ) × (back : List ℕ) × (b ++ later ≡ front ++ back) × LieAlong 0 front (leaves_in events)

@@ -1,5 +1,6 @@
 -- What a reader of fields has told of a block. (This project's own choice.)
-use Rattle.std.specs.Prelude.{◌≡◌, ℕ, List, [], ◌++◌, take, Option}
+use Rattle.std.specs.Prelude.{◌≡◌, ℕ, ◌-◌, List, [], ◌++◌, take, Option, Some, None}
+use Rattle.std.specs.Option.{option_map}
 use Rattle.csn_desc.specs.declared.moves.Move.{Move}
 use Rattle.csn_desc.specs.Nodes.{DescV}
 use Rattle.csn_desc.specs.Formed.{IsDescription}
@@ -41,8 +42,8 @@ pub record TellsOn {S : Type 0} (tells : S → Event → S → Type 0) (f : Foll
 abbrev pub BeginMoves : DescV → List ℕ → List Move → Type 0
 BeginMoves d b moves = (later : List ℕ) (all : List Move) → IsBlock d (b ++ later) all → (rest : List Move) × (all ≡ moves ++ rest)
 
--- this is the innermost node, if there is one, that such moves enter and do not leave
-pub record IsWithin (d : DescV) (b : List ℕ) (within : Option OpenNode) : Type 0 where
+-- this is the innermost node, if there is one, that such moves enter and do not leave which tell these events
+pub record IsWithin (d : DescV) (b : List ℕ) (events : List Event) (within : Option OpenNode) : Type 0 where
   pub numbers : List (Option ℕ)
   pub has : HasNumbers d numbers
   pub moves : List Move
@@ -50,6 +51,7 @@ pub record IsWithin (d : DescV) (b : List ℕ) (within : Option OpenNode) : Type
   pub around : List ℕ
   pub last : ToldV
   pub told : Tells d Goes [] moves around (untold numbers) last
+  pub events_are : last.events ≡ events
   pub within_is : within ≡ innermost last.places.nodes
 
 -- what is known of a block that has ended, and of its events: they are all that it has; or it is no string, and they are
@@ -57,7 +59,7 @@ pub record IsWithin (d : DescV) (b : List ℕ) (within : Option OpenNode) : Type
 abbrev pub EndsWith : DescV → List ℕ → List Event → Ended → Type 0
 EndsWith d b events Whole = AreEvents d b events
 EndsWith d b events (Refused refusal) =
-    IsNoString d b refusal.place × BeginEvents d (take refusal.place b) events × IsWithin d (take refusal.place b) refusal.within
+    IsNoString d b refusal.place × BeginEvents d (take refusal.place b) events × IsWithin d (take refusal.place b) events refusal.within
 
 -- the same, where the last of them are told
 pub record EndsTold {S : Type 0} (tells : S → Event → S → Type 0) (d : DescV) (b : List ℕ) (events : List Event) (old new : S) (ended : Ended)
@@ -70,3 +72,9 @@ pub record EndsTold {S : Type 0} (tells : S → Event → S → Type 0) (d : Des
 abbrev pub ended_as : Judged → Option OpenNode → Ended
 ended_as Ok within = Whole
 ended_as (no_string place) within = Refused (record { place = place; within = within })
+
+-- how many bits are left, where bits are refused at a place, of the innermost node that is open then; where it is a leaf
+-- that has the same number of bits in all blocks
+abbrev pub left_in : ℕ → Option OpenNode → Option ℕ
+left_in place None = None
+left_in place (Some node) = option_map (λ bits. bits - (place - node.place)) node.bits

@@ -4,7 +4,7 @@ ghost use Rattle.csn_desc.specs.declared.moves.Move.{Move as MoveV};
 ghost use Rattle.csn_judge.specs.Judging.{opened, refusal_of};
 ghost use Rattle.csn_judge.specs.Told.{Tells};
 ghost use Rattle.csn_judge.specs.declared.verdict.Judged.TheVariants.{Refused as no_string};
-ghost use Rattle.csn_fields.specs.Follower.{FollowsFor, FollowsOn, Says, Ends, told_of};
+ghost use Rattle.csn_fields.specs.Follower.{FollowsFor, FollowsOn, Says, Ends, credit, told_of};
 
 use csn_certify::{Plan, Steps};
 use csn_judge::{Judge, Judged, Track, Verdict};
@@ -37,6 +37,7 @@ impl<'a> Follower<'a> {
         ensures opened { opened result.judge ≡ [] }
         ensures desc { result.desc ≡ plan.now }
         ensures seen { result.seen ≡ 0 }
+        ensures credit { credit result ≡ 16 * length plan.now.nodes }
     {
         Follower {
             ahead: Judge::new(plan),
@@ -71,6 +72,7 @@ impl<'a> Follower<'a> {
             → Says self.old.desc (b ++ take bits (bits_of_octets piece.now)) result }
         ensures desc { self.new.desc ≡ self.old.desc }
         ensures seen { self.old.refused ≡ None → self.new.seen ≡ self.old.seen + bits }
+        ensures steps { steps.new + credit self.new ≤ steps.old + credit self.old + 16 * length self.old.desc.nodes * bits }
     {
         let was = self.refused;
         let before = self.ahead.seen();
@@ -96,6 +98,8 @@ impl<'a> Follower<'a> {
         ensures opened { opened self.new.judge ≡ [] }
         ensures desc { self.new.desc ≡ self.old.desc }
         ensures seen { self.new.seen ≡ 0 }
+        ensures credit { credit self.new ≡ 16 * length self.old.desc.nodes }
+        ensures steps { steps.new ≤ steps.old + credit self.old }
     {
         csn_desc::laws::strings_are_followed();
         let judged = self.ahead.next_block(steps);

@@ -5,7 +5,7 @@ ghost use Rattle.csn_fields.specs.declared.refusal.Ended.TheVariants.{Refused};
 ghost use Rattle.csn_fields.specs.declared.refusal.Refusal.{Refusal as RefusalV};
 ghost use Rattle.csn_fields.specs.Numbers.{HasNumbers};
 ghost use Rattle.csn_fields.specs.Places.{innermost};
-ghost use Rattle.csn_fields.specs.Follower.{Says};
+ghost use Rattle.csn_fields.specs.Follower.{Says, credit};
 ghost use Rattle.csn_fields.specs.Reading.{TellsFor, TellsOn, EndsTold, ended_as};
 
 use crate::alternatives::Alternatives;
@@ -34,6 +34,7 @@ impl<'a, E: Events> FieldReader<'a, E> {
         ensures events { result.track.events ≡ events }
         ensures desc { result.follower.desc ≡ plan.now }
         ensures seen { result.follower.seen ≡ 0 }
+        ensures credit { credit result.follower ≡ 16 * length plan.now.nodes }
     {
         // its length tells that it is a description, by which bits have one tree
         let _count = plan.len();
@@ -72,6 +73,8 @@ impl<'a, E: Events> FieldReader<'a, E> {
             → Says self.old.follower.desc (b ++ take bits (bits_of_octets piece.now)) result }
         ensures desc { self.new.follower.desc ≡ self.old.follower.desc }
         ensures seen { self.old.follower.refused ≡ None → self.new.follower.seen ≡ self.old.follower.seen + bits }
+        ensures steps { steps.new + credit self.new.follower
+            ≤ steps.old + credit self.old.follower + 16 * length self.old.follower.desc.nodes * bits }
     {
         self.follower.feed_to(piece, bits, &mut self.track, steps)
     }
@@ -86,6 +89,8 @@ impl<'a, E: Events> FieldReader<'a, E> {
             → TellsFor self.new.follower self.new.track.places [] [] }
         ensures desc { self.new.follower.desc ≡ self.old.follower.desc }
         ensures seen { self.new.follower.seen ≡ 0 }
+        ensures credit { credit self.new.follower ≡ 16 * length self.old.follower.desc.nodes }
+        ensures steps { steps.new ≤ steps.old + credit self.old.follower }
     {
         csn_desc::laws::trees_have_moves();
         csn_desc::laws::meanings_are_bits();
@@ -101,6 +106,7 @@ impl<'a, E: Events> FieldReader<'a, E> {
             → EndsTold E.tells self.entry.follower.desc b events self.entry.track.events result.0 result.1 }
         ensures untold { (refusal : RefusalV) → result.1 ≡ Refused refusal → result.0 ≡ self.entry.track.events }
         ensures within { (refusal : RefusalV) → result.1 ≡ Refused refusal → refusal.within ≡ innermost self.entry.track.places.nodes }
+        ensures steps { steps.new ≤ steps.old + credit self.entry.follower }
     {
         let ended = self.next_block(steps);
         let FieldReader { track, .. } = self;

@@ -31,8 +31,13 @@ pub struct OpenNode {
 }
 
 impl Refusal {
+    ghost use Rattle.std.specs.Prelude.{◌≡◌};
+    ghost use Rattle.csn_fields.specs.Reading.{left_in};
+
     /// How many bits were left in the innermost node, where it is a leaf that has the same number of bits in all blocks.
-    pub fn left(&self) -> Option<u32> {
+    pub fn left(&self) -> Option<u32>
+        ensures { result ≡ left_in self.now.place self.now.within }
+    {
         let open = self.within?;
         let bits = open.bits?;
         let read = self.place.saturating_sub(open.place);

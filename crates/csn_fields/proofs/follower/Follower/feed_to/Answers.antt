@@ -1,12 +1,13 @@
-use Rattle.std.proofs.Common.{◌∙◌, ◌++◌, ℕ, List, sym, ap, subst, arith, take}
+use Rattle.std.proofs.Common.{◌∙◌, ◌++◌, ℕ, List, ◌+◌, ◌*◌, ◌≤◌, length, sym, ap, subst, arith, take}
 use Rattle.csn_bits.specs.Octets.{bits_of_octets}
 use Rattle.csn_bits.proofs.Packing.{length-bits_of_octets}
 use Rattle.csn_desc.specs.declared.moves.Move.{Move}
 use Rattle.csn_desc.specs.Nodes.{DescV}
 use Rattle.csn_judge.specs.Told.{Tells}
 use Rattle.csn_judge.specs.Judging.{JudgeV, opened, Judges}
-use Rattle.csn_fields.specs.Follower.{FollowerV, stands, told_of, FollowsFor, FollowsOn, Says}
-use Rattle.csn_fields.proofs.FollowerFacts.{feeds, says_so}
+use Rattle.csn_judge.specs.Judging as judging
+use Rattle.csn_fields.specs.Follower.{FollowerV, stands, credit, told_of, FollowsFor, FollowsOn, Says}
+use Rattle.csn_fields.proofs.FollowerFacts.{feeds, says_so, both_pay}
 use Rattle.csn_fields.proofs.follower.Follower.feed_to.Goals as goal
 
 pub returns-clause-follows : goal.returns-clause-follows
@@ -42,3 +43,15 @@ returns-clause-says g c =
     subst Q c.self.view_is
     (says_so c.self.inside.ahead c.feed-verdict.new.self c.self.inside.judge
     (take c.args.bits piece) c.feed-verdict.result c.feed-verdict.ensures.judges)
+
+pub returns-clause-steps : goal.returns-clause-steps
+returns-clause-steps g c =
+    let nodes : ℕ = length c.self.inside.ahead.desc.nodes in
+    let judged = subst (λ d. c.feed_to-going.new.steps + judging.credit c.feed_to-going.new.self
+    ≤ c.feed-verdict.new.steps + judging.credit c.self.inside.judge + 8 * length d.nodes * c.told_of-told.result) c.self.invariant.same_desc
+    c.feed_to-going.ensures.steps in
+    subst (λ (f : FollowerV). c.feed_to-going.new.steps + credit (stands c.feed-verdict.new.self c.feed_to-going.new.self)
+    ≤ c.args.steps.now + credit f + 16 * length f.desc.nodes * c.args.bits) c.self.view_is
+    (both_pay nodes c.args.bits c.told_of-told.result c.args.steps.now c.feed-verdict.new.steps c.feed_to-going.new.steps
+    (judging.credit c.self.inside.ahead) (judging.credit c.feed-verdict.new.self) (judging.credit c.self.inside.judge)
+    (judging.credit c.feed_to-going.new.self) c.told_of-told.ensures.within c.feed-verdict.ensures.steps judged)
