@@ -1,0 +1,270 @@
+//! The bits of a block that are drawn, leaf after leaf. What they are is known only when they are judged.
+
+ghost use Rattle.std.specs.Prelude.{◌<◌, ◌≤◌, length};
+
+use crate::chart::Chart;
+use crate::generator::Generator;
+use crate::room::Room;
+use crate::span::Span;
+use crate::wish::Values;
+use csn_bits::{Bits, MOST_BITS, NoMemory, PackedBits};
+use csn_desc::{Parts, Reading, Run, Symbol};
+use std::alloc::Global;
+use thiserror::Error;
+
+/// The most bits that padding, or any bits, have where no length is asked for.
+const FEW: u64 = 64;
+
+/// Why a draw stopped.
+#[derive(Clone, Copy, Debug, Drop, PartialEq, Eq, Error)]
+pub(crate) enum Stop {
+    /// What it came to is no string, or longer than was asked.
+    #[error("no string was drawn")]
+    Unlucky,
+    #[error("out of memory")]
+    NoMemory(#[from] NoMemory),
+}
+
+/// Which bits a field gets.
+#[derive(Clone, Copy)]
+enum Fill {
+    Zeros,
+    Ones,
+    Any,
+}
+
+/// How well an alternative suits.
+#[derive(Clone, Copy, PartialEq, Eq, PartialOrd, Ord)]
+enum Suits {
+    Badly,
+    Well,
+    Best,
+}
+
+/// The bits that are drawn so far.
+#[derive(Drop)]
+pub(crate) struct Drawn {
+    /// One bit an item.
+    bits: Vec<u8>,
+    pub generator: Generator,
+    values: Values,
+    /// The most bits that are drawn.
+    most: u64,
+}
+
+impl Drawn {
+    /// No bits. It takes no memory.
+    pub fn new(alloc: Global) -> Drawn {
+        Drawn {
+            bits: Vec::new(alloc),
+            generator: Generator::new(0),
+            values: Values::Uniform,
+            most: 0,
+        }
+    }
+
+    /// No bits again. The generator goes on.
+    pub fn begin(&mut self, values: Values, most: u32) {
+        self.bits.clear();
+        self.values = values;
+        self.most = u64::from(most.min(MOST_BITS));
+    }
+
+    /// How many bits there are.
+    pub fn len(&self) -> u64 {
+        self.bits.len() as u64
+    }
+
+    /// Only the first so many bits.
+    pub fn cut(&mut self, len: u64) {
+        self.bits.truncate(len as usize);
+    }
+
+    /// The bits as a block.
+    pub fn packed(&self, alloc: Global) -> Result<Bits, NoMemory> {
+        let mut packed = PackedBits::new(alloc);
+        for &bit in &self.bits {
+            packed.add(u64::from(bit), 1)?;
+        }
+        packed.take(alloc)
+    }
+
+    /// One more bit.
+    fn push(&mut self, bit: u8) -> Result<(), Stop> {
+        if self.len() >= self.most {
+            return Err(Stop::Unlucky);
+        }
+        if self.bits.push(bit).is_err() {
+            return Err(Stop::NoMemory(NoMemory));
+        }
+        Ok(())
+    }
+
+    /// The bit of a symbol where the next bit stands.
+    fn bit_of(&self, symbol: Symbol) -> u8 {
+        symbol.bit((self.bits.len() % 8) as u32)
+    }
+
+    /// Either bit.
+    fn any_bit(&mut self) -> u8 {
+        (self.generator.number() >> 63) as u8
+    }
+
+    /// The bits of a literal.
+    pub fn literal(&mut self, run: &Run) -> Result<(), Stop> {
+        for at in 0..run.len() {
+            let bit = self.bit_of(*run.get(at));
+            self.push(bit)?;
+        }
+        Ok(())
+    }
+
+    /// A spare bit: a receiver takes either.
+    pub fn spare(&mut self, symbol: Symbol, reading: Reading) -> Result<(), Stop> {
+        let bit = match reading {
+            Reading::Sent => self.bit_of(symbol),
+            Reading::Received => self.any_bit(),
+        };
+        self.push(bit)
+    }
+
+    /// Padding, to the end of the room where a length is asked for. A receiver takes any bits.
+    pub fn padding(&mut self, reading: Reading, room: Room) -> Result<(), Stop> {
+        let as_sent = reading == Reading::Sent || self.generator.one_in(2);
+        for _ in 0..self.count_in(room).max(1) {
+            let bit = if as_sent {
+                self.bit_of(Symbol::Low)
+            } else {
+                self.any_bit()
+            };
+            self.push(bit)?;
+        }
+        Ok(())
+    }
+
+    /// Any bits, to the end of the room where a length is asked for.
+    pub fn rest(&mut self, room: Room) -> Result<(), Stop> {
+        let width = self.count_in(room);
+        self.field(width)
+    }
+
+    /// The bits of a field.
+    pub fn field(&mut self, width: u64) -> Result<(), Stop> {
+        let fill = self.fill();
+        for _ in 0..width {
+            let bit = match fill {
+                Fill::Zeros => 0,
+                Fill::Ones => 1,
+                Fill::Any => self.any_bit(),
+            };
+            self.push(bit)?;
+        }
+        Ok(())
+    }
+
+    /// The bits of a field of at most 16 bits on which counts stand, and the number that they write. Small numbers come
+    /// more often.
+    pub fn number(&mut self, width: u64) -> Result<u32, Stop> {
+        let width = width.min(16) as u32;
+        let number = match self.fill() {
+            Fill::Zeros => 0,
+            Fill::Ones => (1 << width) - 1,
+            Fill::Any => self.small_number(width),
+        };
+        for at in (0..width).rev() {
+            self.push(((number >> at) % 2) as u8)?;
+        }
+        Ok(number as u32)
+    }
+
+    /// A number of at most so many bits, of which each number of bits is as likely as another.
+    fn small_number(&mut self, width: u32) -> u64
+        requires { width ≤ 16 }
+        ensures { result < 65536 }
+    {
+        let bits = self.generator.below(u64::from(width) + 1);
+        self.generator.below(1 << bits)
+    }
+
+    /// Which bits the next field gets.
+    fn fill(&mut self) -> Fill {
+        if self.values == Values::Uniform {
+            return Fill::Any;
+        }
+        match self.generator.below(4) {
+            0 => Fill::Zeros,
+            1 => Fill::Ones,
+            _ => Fill::Any,
+        }
+    }
+
+    /// How many bits a part gets that takes any number of them.
+    fn count_in(&mut self, room: Room) -> u64 {
+        let more = room.most.saturating_sub(room.least).min(FEW);
+        let few = self.generator.below(more.saturating_add(1).max(1));
+        room.least.saturating_add(few)
+    }
+
+    /// The alternative of a choice that is drawn: one that is wanted and fits, or else one that fits, or any.
+    pub fn alternative(&mut self, chart: &Chart<'_>, parts: &Parts, room: Room) -> Option<u16> {
+        let mut drawn = None;
+        let mut best = Suits::Badly;
+        let mut among = 0;
+        for at in 0..parts.len() {
+            let part = parts.get(at);
+            let suits = how_it_suits(chart, part, room);
+            if suits > best {
+                best = suits;
+                among = 0;
+            }
+            if suits == best {
+                among += 1;
+                if self.generator.one_in(among) {
+                    drawn = Some(part);
+                }
+            }
+        }
+        drawn
+    }
+
+    /// How many components of a truncation are drawn: as many as fit, and fill the room where a length is asked for.
+    pub fn components(&mut self, chart: &Chart<'_>, parts: &Parts, room: Room) -> u16
+        ensures { result ≤ length parts.now }
+    {
+        let mut total = Span::NONE;
+        let mut least = 0;
+        let mut most = 0;
+        for at in 0..parts.len() {
+            let part = parts.get(at);
+            if total.most < room.least {
+                least = at + 1;
+            }
+            total = total.and(chart.span(part));
+            if total.least <= room.most {
+                most = at + 1;
+            }
+        }
+        let least = least.min(most);
+        least + self.generator.below(u64::from(most - least) + 1) as u16
+    }
+
+    /// Whether a free repetition has a turn more, behind so many bits of it.
+    pub fn goes_on(&mut self, used: u64, room: Room, turn: Span) -> bool {
+        let left = room.left(used, Span::NONE);
+        if turn.least.max(1) > left.most {
+            return false;
+        }
+        left.least > 0 || !self.generator.one_in(3)
+    }
+}
+
+/// How well an alternative suits.
+fn how_it_suits(chart: &Chart<'_>, part: u16, room: Room) -> Suits {
+    if !room.takes(chart.span(part)) {
+        Suits::Badly
+    } else if chart.wants(part) {
+        Suits::Best
+    } else {
+        Suits::Well
+    }
+}

@@ -1,0 +1,38 @@
+use crate::span::Span;
+use crate::wish::Length;
+
+/// How many bits a part is to have: a draw keeps to it where it can.
+#[derive(Clone, Copy, Debug, PartialEq, Eq)]
+pub(crate) struct Room {
+    pub least: u64,
+    pub most: u64,
+}
+
+impl Room {
+    /// The room of a whole block.
+    pub fn of(length: Length) -> Room {
+        match length {
+            Length::Exactly(bits) => Room {
+                least: u64::from(bits),
+                most: u64::from(bits),
+            },
+            Length::AtMost(most) => Room {
+                least: 0,
+                most: u64::from(most),
+            },
+        }
+    }
+
+    /// What is left of the room where so many bits of it are there, and another part comes behind.
+    pub fn left(self, used: u64, behind: Span) -> Room {
+        Room {
+            least: self.least.saturating_sub(used).saturating_sub(behind.most),
+            most: self.most.saturating_sub(used).saturating_sub(behind.least),
+        }
+    }
+
+    /// Whether a part of this span fits in.
+    pub fn takes(self, span: Span) -> bool {
+        span.least <= self.most && self.least <= span.most
+    }
+}
