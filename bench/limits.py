@@ -19,6 +19,8 @@ import threading
 from dataclasses import dataclass
 from pathlib import Path
 
+import growth
+
 ROOT = Path(__file__).resolve().parent.parent
 MEMORY = 64 << 20
 SECONDS = 20
@@ -213,6 +215,20 @@ def certificates():
     yield row("a number of 16 MiB", b"csn-cert ".ljust(INPUT, b"1"), unread, 4)
 
 
+def repeats(program, folder):
+    """Small texts that stand for much more than their bytes, as `growth.py` has them; unjson takes more memory."""
+    for row in growth.rows(program, folder):
+        if row.command == "unjson":
+            continue
+        files = ["F", "F"] if row.command == "compat" else ["F"]
+        words = [row.command, *files, "M", "received"] + (["CERT"] if row.certificate else [])
+        # A certificate is the one that is written without a bound of memory.
+        text = row.answer or growth.certificate_of(program, folder, row.description)
+        status = {"unproved": 4, "no": 1}.get(text.split(" ", 1)[0], 0)
+        yield Row(f"{row.command}, {row.title}", words, row.description, row.given, text.encode(), status,
+                  certificate=row.certificate.encode())
+
+
 def limit():
     resource.setrlimit(resource.RLIMIT_AS, (MEMORY, MEMORY))
     resource.setrlimit(resource.RLIMIT_CPU, (SECONDS, SECONDS))
@@ -262,11 +278,13 @@ def main():
     program = str(Path(asked.program).resolve())
     count = wrong = longest = 0
     with tempfile.TemporaryDirectory() as name:
-        for rows in (lengths, lines_without_end, depths, numbers, blocks, certificates):
-            for row in rows():
+        folder = Path(name)
+        tables = [rows() for rows in (lengths, lines_without_end, depths, numbers, blocks, certificates)]
+        for rows in [*tables, repeats(program, folder)]:
+            for row in rows:
                 if asked.only not in row.title:
                     continue
-                text, status, took = run(program, Path(name), row)
+                text, status, took = run(program, folder, row)
                 count += 1
                 longest = max(longest, took)
                 if (text, status) != (row.text, row.status):
