@@ -1,0 +1,4 @@
+mod Handles
+mod ReadTexts
+mod Results
+mod Shown

@@ -1,0 +1,5 @@
+pub mod Blocks
+pub mod Buffers
+pub mod Handles
+pub mod Labels
+pub mod Refusals
