@@ -1,0 +1,95 @@
+//! The nodes of a description, and what stands round one.
+
+use csn_bits::NoMemory;
+use csn_desc::{Desc, MOST_NODES, Node, Parts};
+use std::alloc::Global;
+
+/// A part of a node, by its place among them.
+fn listed(parts: &Parts, at: u16) -> Option<u16> {
+    if at < parts.len() {
+        Some(parts.get(at))
+    } else {
+        None
+    }
+}
+
+/// A part of a node by its place among its parts, counted from 0.
+pub(crate) fn part_of(node: &Node, at: u16) -> Option<u16> {
+    match node {
+        Node::Seq(parts) => listed(parts, at),
+        Node::Choice(parts) => listed(parts, at),
+        Node::Trunc(parts) => listed(parts, at),
+        Node::Times { part, .. } => only(*part, at),
+        Node::Many(part) => only(*part, at),
+        Node::Window { part, .. } => only(*part, at),
+        Node::Named { part, .. } => only(*part, at),
+        _ => None,
+    }
+}
+
+/// The one part of a node.
+fn only(part: u16, at: u16) -> Option<u16> {
+    if at == 0 { Some(part) } else { None }
+}
+
+/// Which part of a node another one is, counted from 0.
+pub(crate) fn place_in(node: &Node, part: u16) -> u16 {
+    for at in 0..MOST_NODES {
+        match part_of(node, at) {
+            Some(other) if other == part => return at,
+            Some(_) => (),
+            None => return 0,
+        }
+    }
+    0
+}
+
+/// The node with a number, where there is one.
+pub(crate) fn node_at(desc: &Desc, number: u16) -> Option<&Node> {
+    if number < desc.len() {
+        Some(desc.node(number))
+    } else {
+        None
+    }
+}
+
+/// For each node the node that it is a part of, and for the root itself.
+pub(crate) fn parents_of(alloc: Global, desc: &Desc) -> Result<Vec<u16>, NoMemory> {
+    let mut parents = Vec::new(alloc);
+    for _ in 0..desc.len() {
+        parents.push(0)?;
+    }
+    for number in 0..desc.len() {
+        note_parts(desc.node(number), number, &mut parents);
+    }
+    Ok(parents)
+}
+
+/// Notes the parts of a node as such.
+fn note_parts(node: &Node, number: u16, parents: &mut Vec<u16>) {
+    for at in 0..MOST_NODES {
+        let Some(part) = part_of(node, at) else {
+            return;
+        };
+        if (part as usize) < parents.len() {
+            parents[part as usize] = number;
+        }
+    }
+}
+
+/// The nodes from one up to the root, with both.
+pub(crate) fn way_up(alloc: Global, parents: &[u16], node: u16) -> Result<Vec<u16>, NoMemory> {
+    let mut up = Vec::new(alloc);
+    let mut here = node;
+    for _ in 0..parents.len() {
+        up.push(here)?;
+        if here == 0 {
+            break;
+        }
+        here = match parents.get(here as usize) {
+            Some(parent) => *parent,
+            None => 0,
+        };
+    }
+    Ok(up)
+}

@@ -1,0 +1,76 @@
+//! Where places stand in a text.
+
+ghost use Rattle.std.specs.Prelude.{◌≤◌, ◌+◌, length};
+ghost use Rattle.csn_plan.specs.declared.compiling.TheConstants.{MOST_DESCRIPTION};
+
+/// Where a byte of a text stands: its line and its column, both counted from 1. A column counts the bytes of
+/// its line.
+#[derive(Clone, Copy, Debug, PartialEq, Eq)]
+pub struct Spot {
+    pub line: u32,
+    pub column: u32,
+}
+
+/// Where the byte at a place stands. A place past the end of the text stands behind its last byte.
+pub fn spot_of(text: &[u8], place: u32) -> Spot
+    requires fits { length text.now ≤ MOST_DESCRIPTION }
+{
+    spot_behind(&text[..(place as usize).min(text.len())])
+}
+
+/// Where what follows these bytes stands.
+fn spot_behind(bytes: &[u8]) -> Spot
+    requires fits { length bytes.now ≤ MOST_DESCRIPTION }
+{
+    let mut spot = Spot { line: 1, column: 1 };
+    for byte in bytes {
+        spot = behind(spot, *byte);
+    }
+    spot
+}
+
+/// Where what follows a byte stands.
+fn behind(spot: Spot, byte: u8) -> Spot
+    requires line { spot.line ≤ MOST_DESCRIPTION }
+    requires column { spot.column ≤ MOST_DESCRIPTION }
+    ensures line { result.line ≤ spot.line + 1 }
+    ensures column { result.column ≤ spot.column + 1 }
+{
+    if byte == b'\n' {
+        Spot {
+            line: spot.line + 1,
+            column: 1,
+        }
+    } else {
+        Spot {
+            line: spot.line,
+            column: spot.column + 1,
+        }
+    }
+}
+
+/// Some bytes of a text, or none where it has none there.
+pub(crate) fn piece(text: &[u8], from: u32, to: u32) -> &[u8] {
+    match text.get(from as usize..to as usize) {
+        Some(bytes) => bytes,
+        None => b"",
+    }
+}
+
+/// The bytes of the line that a place stands in.
+pub(crate) fn line_at(text: &[u8], place: u32, spot: Spot) -> &[u8] {
+    let start = place.saturating_sub(spot.column.saturating_sub(1));
+    let Some(rest) = text.get(start as usize..) else {
+        return b"";
+    };
+    let end = rest
+        .iter()
+        .position(|byte: &u8| *byte == b'\n' || *byte == b'\r');
+    match end {
+        Some(end) => match rest.get(..end) {
+            Some(line) => line,
+            None => rest,
+        },
+        None => rest,
+    }
+}
