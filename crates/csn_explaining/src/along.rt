@@ -1,0 +1,96 @@
+//! The events of a block, told to a writer of its leaves.
+
+use crate::nodes::label_at;
+use crate::path::PathText;
+use crate::writer::{LeafWriter, Standing};
+use csn_bits::Bits;
+use csn_certify::Plan;
+use csn_fields::{Ended, Event, Events, Leaf};
+use std::alloc::AllocError;
+
+/// What was told of a block that ended.
+#[derive(Drop)]
+pub(crate) struct Told<W> {
+    pub path: PathText,
+    pub writer: W,
+    /// How the block ended, where there was memory to tell it.
+    pub ended: Result<Ended, AllocError>,
+}
+
+/// Follows the way to each leaf of a block, and hands it to a writer, while there is memory.
+#[derive(Drop)]
+pub(crate) struct Along<'a, W> {
+    plan: &'a Plan,
+    block: &'a Bits,
+    path: PathText,
+    writer: W,
+    /// Whether memory was refused.
+    is_short: bool,
+}
+
+impl<'a, W: LeafWriter> Along<'a, W> {
+    /// The beginning of a block.
+    pub fn new(plan: &'a Plan, block: &'a Bits, mut path: PathText, writer: W) -> Along<'a, W> {
+        path.restart();
+        Along {
+            plan,
+            block,
+            path,
+            writer,
+            is_short: false,
+        }
+    }
+
+    /// Ends the block so.
+    pub fn finish(self, ended: Ended) -> Told<W> {
+        let Along {
+            path,
+            writer,
+            is_short,
+            ..
+        } = self;
+        Told {
+            path,
+            writer,
+            ended: if is_short { Err(AllocError) } else { Ok(ended) },
+        }
+    }
+
+    /// Hands a leaf to the writer.
+    fn tell(&mut self, leaf: Leaf) -> Result<(), AllocError> {
+        self.path.enter(leaf.role, None)?;
+        self.writer.leaf(Standing {
+            leaf,
+            block: self.block,
+            path: self.path.text(),
+            chosen: self.path.chosen(),
+        })?;
+        self.path.pass_leaf();
+        self.path.leave();
+        Ok(())
+    }
+
+    /// Follows an event.
+    fn follow(&mut self, event: Event) -> Result<(), AllocError> {
+        match event {
+            Event::Begin { node, role, .. } => self.path.enter(role, label_at(self.plan, node)),
+            Event::Leaf(leaf) => self.tell(leaf),
+            Event::End { .. } => {
+                self.path.leave();
+                Ok(())
+            }
+        }
+    }
+}
+
+impl<'a, W: LeafWriter> Events for Along<'a, W> {
+    ghost use Rattle.std.specs.Prelude.{⊤};
+
+    ghost tells = { λ _ _ _. ⊤ };
+
+    fn event(&mut self, event: Event) {
+        if !self.is_short {
+            self.is_short = self.follow(event).is_err();
+        }
+    }
+}
