@@ -1,0 +1,137 @@
+/* csn.h - Nambroit for C: a rule of a CSN.1 description is compiled into a handle, and by it blocks are judged, shown as text
+ * or JSON, and written from either. bindings/README.md says how the library is built and linked.
+ *
+ * The library asks its host for memcpy, memmove, memset and the three functions at the end (heap.c has them over malloc), and
+ * for nothing else: it has no thread, no file, no variable of its own, and no exit, abort, signal or longjmp.
+ *
+ * PROVED of each function, for all arguments that keep the duties below: it reads and writes only what is passed and its own
+ * memory, it returns, and what its comment says behind "Proved:". What stands behind "Tested:" is only tested.
+ *
+ * DUTIES OF THE CALLER, which nothing checks:
+ *  1. A pointer with a length is not null, also where the length is 0, and points to so many bytes, which can be read
+ *     (const) or read and written, for the whole call; a length is below 2^63. Each other pointer points to one object that
+ *     can be written. What can be written overlaps nothing else that is passed.
+ *  2. A csn_rule is all zero, or as the last call left it. It is not copied and then used twice, and not looked into.
+ *  3. One call at a time uses a csn_rule. Other threads may use other handles meanwhile. That a handle may go to another thread
+ *     is tested, and not proved.
+ *  4. The three functions at the end come from one allocator, and align as malloc does (16).
+ *  5. No call is made from a signal handler, nor in a forked child of a process with threads.
+ *  6. There are 64 KiB of stack. (The tests see what is used.)
+ *
+ * A number is not told, and stays as it was, unless the comment says what it is. */
+#ifndef CSN_H
+#define CSN_H
+#include <stdbool.h>
+#include <stddef.h>
+#include <stdint.h>
+#ifdef __cplusplus
+extern "C" {
+#endif
+
+/* The version of this header. It rises where a program that was made for an earlier one might not work. */
+#define CSN_VERSION 1
+
+/* The limits: bytes of a description, bits of a block, bytes of the text or JSON of a tree. */
+#define CSN_MOST_DESCRIPTION 262144
+#define CSN_MOST_BITS 524288
+#define CSN_MOST_TREE 16777216
+
+/* A handle: csn_rule rule = {0}; is an empty one. */
+typedef struct csn_rule {
+    void *at;
+} csn_rule;
+
+/* Why a rule is not compiled: the numbers that the program's lines tell (docs/ANSWERS.md). */
+typedef struct csn_why {
+    uint32_t number;
+    uint32_t place;
+} csn_why;
+
+/* A reading: what a receiver must take, or what a sender may write. */
+enum csn_reading { CSN_RECEIVED = 0, CSN_SENT = 1 };
+
+/* A form of a tree. */
+enum csn_form { CSN_TEXT = 0, CSN_JSON = 1 };
+
+enum csn_status {
+    CSN_OK = 0,
+    CSN_NO_RULE = 1,      /* the handle is empty */
+    CSN_NO_MEMORY = 2,
+    CSN_BAD_ARGUMENT = 3, /* there is no such reading or form; or no block: more bits than octets, or than CSN_MOST_BITS */
+    CSN_SYNTAX = 4,       /* the text has no rules; why->place: a byte of it, from 0 */
+    CSN_DESCRIPTION = 5,  /* the rules are refused; why->number: the reason, 1 to 13; why->place: a byte of the text */
+    CSN_CONFLICT = 6,     /* the rule is not certified; why->number: the kind, 1 to 6; why->place: the node, from 0 */
+    CSN_TOO_LONG = 7,     /* more than CSN_MOST_DESCRIPTION bytes, or CSN_MOST_TREE */
+    CSN_REFUSED = 8,      /* the block has no tree; *number: how many of its bits can be followed, all where it ends too early */
+    CSN_NO_BLOCK = 9,     /* no block has the tree; *number: the reason, as in csn_misfit */
+    CSN_NO_LABEL = 10,    /* there is no such node, or it has no label */
+    CSN_NO_TEXT = 11,     /* the bytes are the text of no tree; *number: how many of them begin one */
+    CSN_NO_JSON = 12,     /* the bytes are no JSON */
+    CSN_NO_TREE = 13      /* the JSON shows no tree */
+};
+
+/* Why a tree first misses a description, as the lines of the program name it. */
+enum csn_misfit {
+    CSN_WRONG_KIND = 1,
+    CSN_WRONG_LABEL = 2,
+    CSN_WRONG_COUNT = 3,
+    CSN_WRONG_WIDTH = 4,
+    CSN_WRONG_SPARE = 5,
+    CSN_NO_SUCH_ALTERNATIVE = 6,
+    CSN_WINDOW_LENGTH = 7,
+    CSN_TOO_MANY_BITS = 8
+};
+
+/* The version of the library; a program compares it with CSN_VERSION. */
+uint32_t csn_version(void);
+
+/* Compiles the rule `name` of a text, and frees what the handle held.
+ * Proved: at CSN_OK the handle holds a certified description of that rule, by which any bits have at most one tree. At any
+ * other status it holds what it held, and at CSN_SYNTAX, CSN_DESCRIPTION, CSN_CONFLICT and CSN_TOO_LONG the reason and the
+ * place are those that the definitions give. */
+uint32_t csn_compile(const uint8_t *text, size_t text_len, const uint8_t *name, size_t name_len, uint32_t reading,
+                     csn_rule *rule, csn_why *why);
+
+/* Proved: the handle is empty. An empty one stays so. Tested: what it held is freed. */
+void csn_free(csn_rule *rule);
+
+/* A block is the first `bits` bits of its octets, the most significant bit of an octet first.
+ * Proved: the handle holds what it held. At CSN_OK the block has a tree; at CSN_REFUSED it has none, and *number bits, not one
+ * more, can be followed. Tested: no memory is taken. */
+uint32_t csn_judge(csn_rule *rule, const uint8_t *octets, size_t octets_len, uint32_t bits, size_t *number);
+
+/* The tree of a block as text or JSON, with no byte 0 behind. It has *number bytes, of which the first out_len stand in out.
+ * Proved: the handle holds what it held. At CSN_OK out begins with the text of the one tree of the block, as far as there is
+ * room, whose length is *number, and the rest of out is as it was. At any other status out is as it was, and CSN_REFUSED is
+ * as at csn_judge. Tested: from the second block on no memory is taken, unless the text is longer than any before. */
+uint32_t csn_show(csn_rule *rule, const uint8_t *octets, size_t octets_len, uint32_t bits, uint32_t form,
+                  uint8_t *out, size_t out_len, size_t *number);
+
+/* The block of a tree, from its text or its JSON. It has *number bits, of which those of the first out_len octets stand in out.
+ * Proved: the handle holds what it held. At CSN_OK the bytes are such a text, and out begins with the octets of the block that
+ * has the tree, as far as there is room; the bits behind the last of the block are 0. At any other status out is as it was;
+ * at CSN_NO_BLOCK no block has the tree, and the reason is that of its first misfit. */
+uint32_t csn_write(csn_rule *rule, const uint8_t *bytes, size_t bytes_len, uint32_t form,
+                   uint8_t *out, size_t out_len, size_t *number);
+
+/* Proved: the number of nodes of the rule, and 0 of an empty handle, which holds what it held. */
+uint32_t csn_nodes(csn_rule *rule);
+
+/* The label of a node, which are numbered from 0. It has *number bytes, of which the first out_len stand in out.
+ * Proved: all of this; the handle holds what it held; and CSN_NO_LABEL where there is none, with out as it was. */
+uint32_t csn_label(csn_rule *rule, uint32_t node, uint8_t *out, size_t out_len, size_t *number);
+
+/* What the library asks of its host: a block of n bytes (of a, where n is 0). ok says whether there is one, and p is not null
+ * in either case. So a host sets its own budget, arena or faults here. */
+struct rattle_tried {
+    bool ok;
+    void *p;
+};
+struct rattle_tried rattle_alloc(size_t n, size_t a);
+struct rattle_tried rattle_realloc(void *p, size_t kept, size_t n, size_t a);
+void rattle_dealloc(void *p);
+
+#ifdef __cplusplus
+}
+#endif
+#endif

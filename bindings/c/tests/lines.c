@@ -1,0 +1,156 @@
+/* lines.c - answers lines as csn_cli does, and holds the calls against one another.
+ *
+ * usage: lines show|json|write|unjson FILE NAME READING
+ *
+ * For `show` and `json` the lines are blocks, else trees. Where a rule is not compiled, one line tells why: of a conflict its
+ * kind and its node. Where no block has a tree, `no WHY` without the path. The status is 1 where two calls do not agree. */
+#include "common.h"
+#include <stdio.h>
+#include <stdlib.h>
+#include <string.h>
+
+enum { MOST_LINE_BYTES = 1 << 22, MOST_OCTETS = CSN_MOST_BITS / 8 };
+
+static char line[MOST_LINE_BYTES];
+static uint8_t octets[MOST_OCTETS], back[MOST_OCTETS];
+static uint8_t out[MOST_LINE_BYTES], again[MOST_LINE_BYTES];
+
+static const char *const MISFITS[] = {
+    "",           "WrongKind",         "WrongLabel",   "WrongCount", "WrongWidth",
+    "WrongSpare", "NoSuchAlternative", "WindowLength", "TooManyBits"};
+
+static uint32_t digit(int c)
+{
+    return (uint32_t)(c <= '9' ? c - '0' : (c | 32) - 'a' + 10);
+}
+
+/* The block of a block line, which is well formed. */
+static uint32_t read_block(const char *at, size_t *length)
+{
+    uint32_t bits;
+    *length = 0;
+    if (*at == '.')
+        return 0;
+    for (; *at != '\n' && *at != '/'; at += 2)
+        octets[(*length)++] = (uint8_t)(16 * digit(at[0]) + digit(at[1]));
+    bits = 8 * (uint32_t)*length;
+    return *at == '/' ? bits - 8 + digit(at[1]) : bits;
+}
+
+static void write_block(const uint8_t *block, size_t bits)
+{
+    size_t length = (bits + 7) / 8;
+    if (bits == 0)
+        fputs("ok .", stdout);
+    else
+        fputs("ok ", stdout);
+    for (size_t i = 0; i < length; i++)
+        printf("%02X", block[i]);
+    if (bits % 8 != 0)
+        printf("/%zu", bits % 8);
+    putchar('\n');
+}
+
+/* What is shown again by a handle is the same, also where there is less room: then the rest of the buffer stays. */
+static void show_again(csn_rule *rule, size_t length, uint32_t bits, uint32_t form, size_t count)
+{
+    size_t number = 0, room = count / 2;
+    memset(again, 0x55, room + 16);
+    if (csn_show(rule, octets, length, bits, form, again, room, &number) != CSN_OK || number != count)
+        odd("bytes with less room", number, count);
+    if (memcmp(again, out, room) != 0 || again[room] != 0x55)
+        odd("bytes past the room", again[room], 0x55);
+}
+
+/* The text of a block is written as this block. */
+static void write_back(csn_rule *rule, size_t length, uint32_t bits, uint32_t form, size_t count)
+{
+    size_t number = 0;
+    uint32_t status = csn_write(rule, out, count, form, back, sizeof back, &number);
+    if (status != CSN_OK || number != bits)
+        odd("bits written back", status == CSN_OK ? number : 1000000 + status, bits);
+    else if (length > 0 && memcmp(back, octets, length) != 0)
+        odd("octets written back", back[0], octets[0]);
+}
+
+static void show(csn_rule *rule, uint32_t form)
+{
+    size_t length, number = 0, place = 0;
+    uint32_t bits = read_block(line, &length);
+    uint32_t status = csn_show(rule, octets, length, bits, form, out, sizeof out, &number);
+    uint32_t judged = csn_judge(rule, octets, length, bits, &place);
+    if (judged != status || (status == CSN_REFUSED && place != number))
+        odd("status of a judge", judged, status);
+    if (status == CSN_OK) {
+        printf("ok %.*s\n", (int)number, (const char *)out);
+        show_again(rule, length, bits, form, number);
+        write_back(rule, length, bits, form, number);
+    } else if (status == CSN_REFUSED) {
+        printf("no %zu %s\n", number, number == bits ? "ended" : "bit");
+    } else {
+        printf("status %u\n", status);
+    }
+}
+
+static void write_tree(csn_rule *rule, uint32_t form)
+{
+    size_t number = 0;
+    uint32_t status = csn_write(rule, (const uint8_t *)line, strcspn(line, "\n"), form, back, sizeof back, &number);
+    switch (status) {
+    case CSN_OK:
+        write_block(back, number);
+        break;
+    case CSN_NO_BLOCK:
+        printf("no %s\n", number <= 8 ? MISFITS[number] : "");
+        break;
+    case CSN_NO_TEXT:
+        printf("bad %zu\n", number);
+        break;
+    case CSN_NO_JSON:
+        puts("bad 1");
+        break;
+    case CSN_NO_TREE:
+        puts("bad 2");
+        break;
+    default:
+        printf("status %u\n", status);
+    }
+}
+
+static int refuse(uint32_t status, const csn_why *why)
+{
+    if (status == CSN_SYNTAX)
+        printf("syntax %u\n", why->place);
+    else if (status == CSN_DESCRIPTION)
+        printf("description %u %u\n", why->number, why->place);
+    else if (status == CSN_CONFLICT)
+        printf("conflict %u %u\n", why->number, why->place);
+    else
+        printf("status %u\n", status);
+    return 0;
+}
+
+int main(int count, char **words)
+{
+    csn_rule rule = {0};
+    csn_why why = {0, 0};
+    if (count != 5)
+        return 2;
+    bytes text = read_file(words[2]);
+    uint32_t status = compile_file(&text, words[3], words[4], &rule, &why);
+    free(text.at);
+    if (status != CSN_OK)
+        return refuse(status, &why);
+    bool is_json = strcmp(words[1], "json") == 0 || strcmp(words[1], "unjson") == 0;
+    bool shows = strcmp(words[1], "show") == 0 || strcmp(words[1], "json") == 0;
+    while (fgets(line, sizeof line, stdin) != NULL) {
+        if (line[0] == '\n')
+            continue;
+        if (shows)
+            show(&rule, is_json ? CSN_JSON : CSN_TEXT);
+        else
+            write_tree(&rule, is_json ? CSN_JSON : CSN_TEXT);
+    }
+    csn_free(&rule);
+    return odd_count != 0;
+}

@@ -1,0 +1,109 @@
+/* speed.c - how many blocks a second are judged, shown and written.
+ *
+ * usage: speed FILE NAME READING COUNT < BLOCKS
+ *
+ * BLOCKS are lines of hexadecimal digits, whole octets, that the rule has; they are gone through again until COUNT blocks are
+ * done. Prints a line for each call, with the best of five runs. */
+#define _POSIX_C_SOURCE 200809L
+#include "common.h"
+#include <stdio.h>
+#include <stdlib.h>
+#include <string.h>
+#include <time.h>
+
+enum { MOST_BLOCKS = 4096, MOST_OCTETS = 256, MOST_TEXT = 8192, RUNS = 5 };
+
+static struct {
+    uint8_t octets[MOST_OCTETS];
+    size_t length;
+    uint8_t text[MOST_TEXT];
+    size_t text_length;
+} blocks[MOST_BLOCKS];
+
+static size_t block_count = 0;
+static csn_rule rule = {0};
+static uint8_t out[MOST_TEXT];
+
+static double now(void)
+{
+    struct timespec at;
+    clock_gettime(CLOCK_MONOTONIC, &at);
+    return (double)at.tv_sec + 1e-9 * (double)at.tv_nsec;
+}
+
+static uint32_t judges(size_t i)
+{
+    size_t number;
+    return csn_judge(&rule, blocks[i].octets, blocks[i].length, 8 * (uint32_t)blocks[i].length, &number);
+}
+
+static uint32_t shows(size_t i)
+{
+    size_t number;
+    return csn_show(&rule, blocks[i].octets, blocks[i].length, 8 * (uint32_t)blocks[i].length, CSN_TEXT, out, sizeof out,
+                    &number);
+}
+
+static uint32_t shows_json(size_t i)
+{
+    size_t number;
+    return csn_show(&rule, blocks[i].octets, blocks[i].length, 8 * (uint32_t)blocks[i].length, CSN_JSON, out, sizeof out,
+                    &number);
+}
+
+static uint32_t writes(size_t i)
+{
+    size_t number;
+    return csn_write(&rule, blocks[i].text, blocks[i].text_length, CSN_TEXT, out, sizeof out, &number);
+}
+
+static void time_of(const char *what, uint32_t (*call)(size_t), size_t count)
+{
+    double best = 0;
+    for (int run = 0; run < RUNS; run++) {
+        double start = now();
+        for (size_t k = 0, i = 0; k < count; k++, i = i + 1 == block_count ? 0 : i + 1)
+            if (call(i) != CSN_OK)
+                odd(what, 1, CSN_OK);
+        double rate = (double)count / (now() - start);
+        best = rate > best ? rate : best;
+    }
+    printf("%s %.0f\n", what, best);
+}
+
+static bool read_block(void)
+{
+    char line[2 * MOST_OCTETS + 2];
+    unsigned octet;
+    if (block_count == MOST_BLOCKS || fgets(line, sizeof line, stdin) == NULL)
+        return false;
+    for (const char *at = line; sscanf(at, "%2x", &octet) == 1; at += 2)
+        blocks[block_count].octets[blocks[block_count].length++] = (uint8_t)octet;
+    return true;
+}
+
+int main(int count, char **words)
+{
+    csn_why why;
+    if (count != 5)
+        return 2;
+    bytes text = read_file(words[1]);
+    size_t many = (size_t)atol(words[4]);
+    if (compile_file(&text, words[2], words[3], &rule, &why) != CSN_OK)
+        return 2;
+    for (; read_block(); block_count++) {
+        if (shows(block_count) != CSN_OK)
+            odd("status of a block", 1, CSN_OK);
+        csn_show(&rule, blocks[block_count].octets, blocks[block_count].length, 8 * (uint32_t)blocks[block_count].length,
+                 CSN_TEXT, blocks[block_count].text, MOST_TEXT, &blocks[block_count].text_length);
+    }
+    if (block_count == 0)
+        return 2;
+    time_of("judge", judges, many);
+    time_of("show", shows, many);
+    time_of("json", shows_json, many);
+    time_of("write", writes, many);
+    csn_free(&rule);
+    free(text.at);
+    return odd_count != 0;
+}

@@ -1,0 +1,232 @@
+//! The library for C, and through it for Python and Rust. `bindings/c/csn.h` says what each function does, in what units, and
+//! what the caller owes.
+#![tactic(auto)]
+
+ghost use Rattle.std.specs.Prelude.{◌≡◌, ◌≢◌, ◌<◌, ◌≤◌, None, List, ℕ, IfOk, IfErr, IfSome, IfNone, MatchOption, length};
+ghost use Rattle.csn_rule.specs.Blocks.{block_in};
+ghost use Rattle.csn_rule.specs.Labels.{HasLabel};
+ghost use Rattle.csn_rule.specs.Refusals.{IsNoRule};
+ghost use Rattle.csn_c.specs.Answers.{Holds, IsRule, JudgesTo, LabelsTo, ShowsTo, TellsWhy, WritesTo};
+ghost use Rattle.csn_c.specs.Numbers.{IsBlock, form_in, reading_in};
+ghost use Rattle.csn_c.specs.declared.status.TheConstants.{BAD_ARGUMENT, NO_LABEL, NO_RULE, OK, TOO_LONG};
+
+mod numbers;
+mod status;
+
+use crate::numbers::{form_of, is_block, reading_of};
+use crate::status::{
+    BAD_ARGUMENT, NO_LABEL, NO_RULE, OK, TOO_LONG, Why, status_of_judged, status_of_no_rule,
+    status_of_shown, status_of_written,
+};
+use csn_rule::{Handle, MOST_LINE, NoRule, Reading, Rule, copy_into};
+use std::alloc::Global;
+use std::boxed::Box;
+
+/// The version of the calls: it rises where a program that was made for an earlier one might not work.
+const VERSION: u32 = 1;
+
+/// The version of the library.
+#[unsafe(no_mangle)]
+pub extern "C" fn csn_version() -> u32
+    ensures { result ≡ 1 }
+{
+    VERSION
+}
+
+/// The named rule of a text in a box.
+fn compile(alloc: Global, text: &[u8], name: &[u8], reading: Reading) -> Result<Box<Rule>, NoRule>
+    ensures rule { IfOk result (λ boxed. IsRule text.now name.now reading boxed.value) }
+    ensures none { IfErr result (IsNoRule text.now name.now reading) }
+{
+    let rule = Rule::compile(alloc, text, name, reading)?;
+    match Box::new(alloc, rule) {
+        Ok(boxed) => Ok(boxed),
+        Err(_) => Err(NoRule::NoMemory),
+    }
+}
+
+/// Compiles the named rule of a text into a handle, and frees what the handle held. Behind a refusal it holds what it held.
+#[unsafe(no_mangle)]
+pub extern "C" fn csn_compile(
+    alloc: Global,
+    text: &[u8],
+    name: &[u8],
+    reading: u32,
+    rule: &mut Handle,
+    why: &mut Why,
+) -> u32
+    ensures ok { result ≡ OK → MatchOption (reading_in reading) ⊥ (λ r. Holds text.now name.now r rule.new.held) }
+    ensures refused { result ≢ OK → MatchOption (reading_in reading) (result ≡ BAD_ARGUMENT)
+        (λ r. TellsWhy text.now name.now r result why.old why.new) }
+    ensures kept { result ≢ OK → rule.new.held ≡ rule.old.held }
+{
+    let Some(reading) = reading_of(reading) else {
+        return BAD_ARGUMENT;
+    };
+    match compile(alloc, text, name, reading) {
+        Ok(boxed) => {
+            rule.put(alloc, boxed);
+            OK
+        }
+        Err(no_rule) => status_of_no_rule(no_rule, why),
+    }
+}
+
+/// Frees what a handle holds, and leaves it empty.
+#[unsafe(no_mangle)]
+pub extern "C" fn csn_free(alloc: Global, rule: &mut Handle)
+    ensures { rule.new.held ≡ None }
+{
+    match rule.take(alloc) {
+        None => {}
+        Some(held) => drop(held),
+    }
+}
+
+/// Judges a block, which is the first `bits` bits of the octets.
+#[unsafe(no_mangle)]
+pub extern "C" fn csn_judge(
+    alloc: Global,
+    rule: &mut Handle,
+    octets: &[u8],
+    bits: u32,
+    number: &mut usize,
+) -> u32
+    ensures held { rule.new.held ≡ rule.old.held }
+    ensures bad { ¬ IsBlock octets.now bits → result ≡ BAD_ARGUMENT }
+    ensures judges { IsBlock octets.now bits → MatchOption rule.old.held (result ≡ NO_RULE)
+        (λ d. JudgesTo d (block_in octets.now bits) result number.old number.new) }
+{
+    if !is_block(octets, bits) {
+        return BAD_ARGUMENT;
+    }
+    let Some(held) = rule.take(alloc) else {
+        return NO_RULE;
+    };
+    let judged = held.judge(octets, bits);
+    rule.put(alloc, held);
+    status_of_judged(judged, number)
+}
+
+/// Shows the tree of a block as text, form 0, or as JSON, form 1.
+#[unsafe(no_mangle)]
+pub extern "C" fn csn_show(
+    alloc: Global,
+    rule: &mut Handle,
+    octets: &[u8],
+    bits: u32,
+    form: u32,
+    out: &mut [u8],
+    number: &mut usize,
+) -> u32
+    ensures held { rule.new.held ≡ rule.old.held }
+    ensures kept { result ≢ OK → out.new ≡ out.old }
+    ensures bad { ¬ IsBlock octets.now bits → result ≡ BAD_ARGUMENT }
+    ensures shows { IsBlock octets.now bits → MatchOption (form_in form) (result ≡ BAD_ARGUMENT)
+        (λ f. MatchOption rule.old.held (result ≡ NO_RULE)
+        (λ d. ShowsTo f d (block_in octets.now bits) out.old out.new result number.old number.new)) }
+{
+    let Some(form) = form_of(form) else {
+        return BAD_ARGUMENT;
+    };
+    if !is_block(octets, bits) {
+        return BAD_ARGUMENT;
+    }
+    let Some(mut held) = rule.take(alloc) else {
+        return NO_RULE;
+    };
+    let shown = held.show(form, octets, bits, out);
+    rule.put(alloc, held);
+    status_of_shown(shown, number)
+}
+
+/// Writes the block of a tree, which the bytes are as text, form 0, or show as JSON, form 1.
+#[unsafe(no_mangle)]
+pub extern "C" fn csn_write(
+    alloc: Global,
+    rule: &mut Handle,
+    bytes: &[u8],
+    form: u32,
+    out: &mut [u8],
+    number: &mut usize,
+) -> u32
+    ensures held { rule.new.held ≡ rule.old.held }
+    ensures kept { result ≢ OK → out.new ≡ out.old }
+    ensures long { 16777216 < length bytes.now → MatchOption (form_in form) (result ≡ BAD_ARGUMENT) (λ f. result ≡ TOO_LONG) }
+    ensures writes { length bytes.now ≤ 16777216 → MatchOption (form_in form) (result ≡ BAD_ARGUMENT)
+        (λ f. MatchOption rule.old.held (result ≡ NO_RULE)
+        (λ d. WritesTo f d bytes.now out.old out.new result number.old number.new)) }
+{
+    let Some(form) = form_of(form) else {
+        return BAD_ARGUMENT;
+    };
+    if bytes.len() > MOST_LINE as usize {
+        return TOO_LONG;
+    }
+    let Some(held) = rule.take(alloc) else {
+        return NO_RULE;
+    };
+    let written = held.write(alloc, form, bytes, out);
+    rule.put(alloc, held);
+    status_of_written(written, number)
+}
+
+/// How many nodes the rule has; none where the handle is empty.
+#[unsafe(no_mangle)]
+pub extern "C" fn csn_nodes(alloc: Global, rule: &mut Handle) -> u32
+    ensures held { rule.new.held ≡ rule.old.held }
+    ensures count { MatchOption rule.old.held (result ≡ 0) (λ d. result ≡ length d.nodes) }
+{
+    let Some(held) = rule.take(alloc) else {
+        return 0;
+    };
+    let count = u32::from(held.len());
+    rule.put(alloc, held);
+    count
+}
+
+/// The label of a node, counted from 0.
+#[unsafe(no_mangle)]
+pub extern "C" fn csn_label(
+    alloc: Global,
+    rule: &mut Handle,
+    node: u32,
+    out: &mut [u8],
+    number: &mut usize,
+) -> u32
+    ensures held { rule.new.held ≡ rule.old.held }
+    ensures kept { result ≢ OK → out.new ≡ out.old }
+    ensures labels { MatchOption rule.old.held (result ≡ NO_RULE) (λ d. LabelsTo d node out.old out.new result number.new) }
+{
+    let Some(held) = rule.take(alloc) else {
+        return NO_RULE;
+    };
+    let status = copy_label(&held, node, out, number);
+    rule.put(alloc, held);
+    status
+}
+
+/// Copies the label of a node, and counts it.
+fn copy_label(rule: &Rule, node: u32, out: &mut [u8], number: &mut usize) -> u32
+    ensures kept { result ≢ OK → out.new ≡ out.old }
+    ensures labels { LabelsTo rule.now node out.old out.new result number.new }
+{
+    let Some(label) = label_of(rule, node) else {
+        return NO_LABEL;
+    };
+    copy_into(label, out);
+    *number = label.len();
+    OK
+}
+
+/// The label of a node; none where it has none, and where there is no such node.
+fn label_of(rule: &Rule, node: u32) -> Option<&[u8]>
+    ensures label { IfSome result (λ label. HasLabel rule.now node label.now) }
+    ensures none { IfNone result ((label : List ℕ) → HasLabel rule.now node label → ⊥) }
+{
+    if node < u32::from(rule.len()) {
+        rule.label(node as u16)
+    } else {
+        None
+    }
+}
