@@ -73,19 +73,11 @@ class Definition:
 def crates():
     """The crates, in the order of crates.txt."""
     lines = (ROOT / "crates.txt").read_text().splitlines()
-    return [line.split(":")[0] for line in lines if line and not line.startswith("#")]
+    return [line.split(":")[0].split()[0] for line in lines if line and not line.startswith("#")]
 
 
 def first_sentence(comment):
     return SENTENCE.split(comment.strip())[0]
-
-
-def short(sentence):
-    """A long sentence up to its first colon or semicolon, where four words or more stand before that."""
-    front = re.split(r"[:;] ", sentence)[0]
-    if front == sentence or len(sentence.split()) <= 20 or len(front.split()) < 4:
-        return sentence
-    return front + ("." if sentence.endswith(".") else "")
 
 
 def root_of(crate):
