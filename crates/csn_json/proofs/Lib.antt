@@ -3,7 +3,9 @@ pub mod Lines
 pub mod Writing
 pub mod Injective
 pub mod Refusals
-pub mod Rows
+pub mod Pieces
+pub mod MembersRead
+pub mod Streams
 pub mod Counts
 pub mod Texts
 pub mod Decided

@@ -1,41 +1,15 @@
 -- What a value has to be, part by part, that shows a tree.
-use Rattle.std.proofs.Common.{◌≡◌, ℕ, ◌+◌, ◌<◌, Bool, List, Result, Ok, Err, IfOk, IfErr, codes, refl, sym, ap, ◌∙◌, subst, arith, add-one}
-use Rattle.std.specs.Prelude.{IsErrAnd}
-use Rattle.std.proofs.lemmas.Result.{err_from_is_err_and}
+use Rattle.std.proofs.Common.{◌≡◌, ℕ, ◌+◌, ◌<◌, Bool, List, codes, refl, sym, ap, ◌∙◌, subst, arith, add-one}
 use Rattle.csn_desc.specs.Label.{IsLabel}
 use Rattle.csn_desc.specs.declared.desc.TheConstants.{MOST_NODES}
 use Rattle.csn_desc.specs.TreeV.{TreeV, empty, bits, row, alt, named, Trees}
 use Rattle.csn_treetext.specs.declared.bounds.TheConstants.{MOST_LEVELS}
 use Rattle.csn_treetext.proofs.Fitting.{room_for}
 use Rattle.serde_json.specs.Data.{Data, boolean, number, string, array, object, unsigned, Num, Items, Members}
-use Rattle.csn_json.specs.declared.fault.JsonFault.{JsonFault}
-use Rattle.csn_json.specs.declared.fault.JsonFault.TheVariants.{NotJson, NotTree, NoMemory}
 use Rattle.csn_json.specs.declared.tag.Tag.{Tag}
 use Rattle.csn_json.specs.declared.tag.Tag.TheVariants.{Numbered, Labelled}
 use Rattle.csn_json.specs.JsonTree.{json_of, tagged}
-use Rattle.csn_json.specs.Reading.{IsWritten, IsShown, AreShown, IsTag, Refuses, with_tag}
-
--- ---- what a `?` hands on
-
-weaker : {A B : Type 0} (e : JsonFault) → (A → B) → Refuses e A → Refuses e B
-weaker NotJson by h = h
-weaker NotTree by h = by h
-weaker NoMemory by h = tt
-
-pub passed : {T A B : Type 0} (r : Result T JsonFault) (e : JsonFault) → IsErrAnd r (λ y. y ≡ e) → (A → B) → Refuses e A → IfErr r (λ fault. Refuses fault B)
-passed {T = T} {A = A} {B = B} r e handed by h =
-    let p = err_from_is_err_and r handed in
-    let G : Result T JsonFault → Type 0 = λ x. IfErr x (λ fault. Refuses fault B) in
-    subst G (sym (p.1 ∙ ap (λ z. Err z) p.2)) (weaker e by h)
-
--- where memory alone was wanting nothing is said
-pub memory_alone : {T : Type 0} (B : Type 0) (r : Result T JsonFault) → IfErr r (λ fault. fault ≡ NoMemory) → IfErr r (λ fault. Refuses fault B)
-memory_alone B (Ok x) only = tt
-memory_alone B (Err e) only = subst (λ fault. Refuses fault B) (sym only) tt
-
-pub passed_memory : {T : Type 0} (B : Type 0) (r : Result T JsonFault) (e : JsonFault) → IsErrAnd r (λ y. y ≡ e)
-    → e ≡ NoMemory → IfErr r (λ fault. Refuses fault B)
-passed_memory B r e handed only = passed r e handed (λ (b : B). b) (subst (λ fault. Refuses fault B) (sym only) tt)
+use Rattle.csn_json.specs.Reading.{IsWritten, IsShown, AreShown, IsTag, with_tag}
 
 -- ---- values that show nothing
 
@@ -112,14 +86,6 @@ known_members round ms key of inside known t is =
     let found = members_of round ms t is in
     same_members round key of inside found.0 found.1 found.2 (sym found.3 ∙ known) found.4
 
--- one is refused where what its tag or its tree has to be is refused
-pub member_refused :
-    {T A : Type 0} (round : ℕ) (ms : Members) (key : List ℕ) (of inside : Data) → object ms ≡ tagged key of inside
-    → (r : Result T JsonFault) (e : JsonFault) → IsErrAnd r (λ y. y ≡ e)
-    → (A → Tagged round key of inside → ⊥) → Refuses e A → IfErr r (λ fault. Refuses fault ((t : TreeV) → IsShown round (object ms) t → ⊥))
-member_refused round ms key of inside known r e handed none h =
-    passed r e handed (λ nothing t is. none nothing (known_members round ms key of inside known t is)) h
-
 -- ---- the tag under a key
 
 pub no_number_under : (key : List ℕ) (of : Data)
@@ -155,11 +121,3 @@ shown_with_tag round key of inside (Labelled l) t is below =
       parts = (is.1, next.parts);
       shown = ap (λ k. tagged k of inside) is.0 ∙ ap (λ o. tagged (codes "label") o inside) is.2 ∙ ap (λ i. tagged (codes "label") (string l) i) next.shown;
     }
-
-pub tagged_shown : (round : ℕ) (ms : Members) (key : List ℕ) (of inside : Data) → object ms ≡ tagged key of inside
-    → (tag : Tag) (t : TreeV) (r : Result TreeV JsonFault) → IsTag key of tag → IsShown (round + 1) inside t
-    → IfOk r (λ whole. whole ≡ with_tag tag t) → IfOk r (IsShown round (object ms))
-tagged_shown round ms key of inside known tag t (Ok whole) is below made =
-    subst (IsShown round (object ms)) (sym made) (subst (λ d. IsShown round d (with_tag tag t)) (sym known)
-    (shown_with_tag round key of inside tag t is below))
-tagged_shown round ms key of inside known tag t (Err e) is below made = tt

@@ -1,5 +1,5 @@
 -- What the private parts of the reader say. No public contract rests on it.
-use Rattle.std.specs.Prelude.{◌≡◌, ℕ, suc, ◌+◌, ◌<◌, ◌≤◌, List, length, codes}
+use Rattle.std.specs.Prelude.{◌≡◌, ℕ, ◌<◌, ◌≤◌, List, length, codes}
 use Rattle.csn_bits.specs.Octets.{IsBits, most_bits}
 use Rattle.csn_bits.specs.Line.{written}
 use Rattle.csn_desc.specs.Label.{IsLabel}
@@ -7,7 +7,7 @@ use Rattle.csn_desc.specs.TreeV.{TreeV, Trees, alt, named}
 use Rattle.csn_desc.specs.TreeParts.{HasTreeParts, AllHaveTreeParts}
 use Rattle.csn_desc.specs.declared.desc.TheConstants.{MOST_NODES}
 use Rattle.csn_treetext.specs.Fits.{FitsInside, AllFitInside}
-use Rattle.serde_json.specs.Data.{Data, null, boolean, number, string, array, object, unsigned, Items, no_items, item, Members, no_members, member}
+use Rattle.serde_json.specs.Data.{Data, number, string, unsigned, Items}
 use Rattle.csn_json.specs.declared.fault.JsonFault.{JsonFault}
 use Rattle.csn_json.specs.declared.fault.JsonFault.TheVariants.{NotJson, NotTree, NoMemory}
 use Rattle.csn_json.specs.declared.tag.Tag.{Tag}
@@ -48,21 +48,3 @@ abbrev pub Refuses : JsonFault → Type 0 → Type 0
 Refuses NotJson nothing = ⊥
 Refuses NotTree nothing = nothing
 Refuses NoMemory nothing = Unit {0}
-
--- how many values stand in a value, with itself
-abbrev mutual
-  pub values_in : Data → ℕ
-  values_in null = 1
-  values_in (boolean b) = 1
-  values_in (number n) = 1
-  values_in (string s) = 1
-  values_in (array ds) = suc (values_in_items ds)
-  values_in (object ms) = suc (values_in_members ms)
-
-  pub values_in_items : Items → ℕ
-  values_in_items no_items = 0
-  values_in_items (item d ds) = values_in d + values_in_items ds
-
-  pub values_in_members : Members → ℕ
-  values_in_members no_members = 0
-  values_in_members (member k d ms) = values_in d + values_in_members ms

@@ -5,7 +5,11 @@ pub mod examples;
 mod fault;
 mod form;
 pub mod laws;
+mod members;
+mod number;
+mod piece;
 mod read;
+mod reading;
 mod tag;
 mod write;
 

@@ -1,16 +1,13 @@
 //! What tells apart the objects that show trees.
 
-ghost use Rattle.std.specs.Prelude.{◌≡◌, ◌<◌, ℕ, List, IfOk, IfErr};
-ghost use Rattle.csn_desc.specs.Label.{IsLabel};
-ghost use Rattle.csn_desc.specs.declared.desc.TheConstants.{MOST_NODES};
-ghost use Rattle.serde_json.specs.Data.{number, string, unsigned};
-ghost use Rattle.serde_json.specs.View.{view};
-ghost use Rattle.csn_json.specs.Reading.{IsTag, Refuses, with_tag};
+ghost use Rattle.std.specs.Prelude.{◌≡◌, ℕ, codes, IfOk, IfErr};
+ghost use Rattle.serde_json.specs.Data.{Data, string};
+ghost use Rattle.csn_json.specs.Reading.{with_tag};
+ghost use Rattle.csn_json.specs.Pieces.{Tells, TellsTag};
 
 use crate::fault::JsonFault;
+use crate::piece::Piece;
 use csn_desc::{Label, LabelFault, Shape, Tree};
-use csn_treetext::GREATEST_ALTERNATIVE;
-use serde_json::Value;
 use std::alloc::Global;
 
 /// The number of an alternative, or the label of a labelled part.
@@ -20,38 +17,26 @@ pub(crate) enum Tag {
     Labelled(Label),
 }
 
-/// The tag that a value under a key is.
-pub(crate) fn tag_of(alloc: Global, key: &str, of: &Value) -> Result<Tag, JsonFault>
-    ensures ok { IfOk result (λ tag. IsTag key.now (view of.now) tag) }
-    ensures refused { IfErr result (λ fault. Refuses fault ((tag : _) → IsTag key.now (view of.now) tag → ⊥)) }
+/// The tag that a value under a key is, if it is one.
+pub(crate) fn tag_of(alloc: Global, key: &str, piece: &Piece) -> Result<Option<Tag>, JsonFault>
+    ensures ok { (round : ℕ) (value : Data) → Tells round piece.now value → IfOk result (λ found. TellsTag key.now found value) }
+    ensures memory { IfErr result (λ fault. fault ≡ JsonFault.NoMemory) }
 {
-    match key {
-        "alt" => Ok(Tag::Numbered(alternative_of(of)?)),
-        "label" => Ok(Tag::Labelled(label_of(alloc, of)?)),
-        _ => Err(JsonFault::NotTree),
+    match (key, piece) {
+        ("alt", Piece::Number(number)) => Ok(Some(Tag::Numbered(*number))),
+        ("label", Piece::Text(words)) => label_tag(alloc, words),
+        _ => Ok(None),
     }
 }
 
-// The number of an alternative.
-fn alternative_of(value: &Value) -> Result<u16, JsonFault>
-    ensures ok { IfOk result (λ n. (n < MOST_NODES) × (view value.now ≡ number (unsigned n))) }
-    ensures refused { IfErr result (λ fault. Refuses fault ((n : ℕ) → n < MOST_NODES → view value.now ≡ number (unsigned n) → ⊥)) }
+// The label that a string spells, if it spells one.
+fn label_tag(alloc: Global, words: &str) -> Result<Option<Tag>, JsonFault>
+    ensures ok { IfOk result (λ found. TellsTag (codes "label") found (string words.now)) }
+    ensures memory { IfErr result (λ fault. fault ≡ JsonFault.NoMemory) }
 {
-    match value.as_u64() {
-        Some(number) if number <= u64::from(GREATEST_ALTERNATIVE) => Ok(number as u16),
-        _ => Err(JsonFault::NotTree),
-    }
-}
-
-// The label that a string spells.
-fn label_of(alloc: Global, value: &Value) -> Result<Label, JsonFault>
-    ensures ok { IfOk result (λ label. IsLabel label × (view value.now ≡ string label)) }
-    ensures refused { IfErr result (λ fault. Refuses fault ((l : List ℕ) → IsLabel l → view value.now ≡ string l → ⊥)) }
-{
-    let words = value.as_str().ok_or(JsonFault::NotTree)?;
     match Label::new(alloc, words.as_bytes()) {
-        Ok(label) => Ok(label),
-        Err(LabelFault::BadLabel) => Err(JsonFault::NotTree),
+        Ok(label) => Ok(Some(Tag::Labelled(label))),
+        Err(LabelFault::BadLabel) => Ok(None),
         Err(LabelFault::NoMemory) => Err(JsonFault::NoMemory),
     }
 }
