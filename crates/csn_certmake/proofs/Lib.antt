@@ -11,6 +11,7 @@ mod Positions
 mod Telling
 mod Claiming
 mod Making
+mod NearParts
 mod Words
 mod Told
 mod Keyed

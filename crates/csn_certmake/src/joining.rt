@@ -101,7 +101,11 @@ fn cut_to(pattern: &Pattern, room: u8) -> Pattern
 
 /// Patterns with no more marks than there is room for. Of those that come to the same and stand side by side, one is
 /// kept.
-fn cut_all(alloc: Global, patterns: &[Pattern], room: u8) -> Result<Vec<Pattern>, NoMemory>
+pub(crate) fn cut_all(
+    alloc: Global,
+    patterns: &[Pattern],
+    room: u8,
+) -> Result<Vec<Pattern>, NoMemory>
     requires { room ≤ MOST_MARKS }
     ensures { IfOk result (λ cut. HasSame cut.items (map (cut_to room) patterns.now)) }
 {

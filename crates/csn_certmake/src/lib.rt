@@ -5,6 +5,7 @@ mod digits;
 mod joining;
 pub mod laws;
 mod make;
+mod near;
 mod pattern_table;
 mod row;
 

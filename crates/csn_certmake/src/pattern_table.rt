@@ -1,6 +1,6 @@
 //! The patterns of all nodes of a description, each from those of its parts.
 
-ghost use Rattle.std.specs.Prelude.{◌≡◌, ◌≤◌, [], ◌∷◌, length, flat_map, true, IfOk};
+ghost use Rattle.std.specs.Prelude.{◌≡◌, ◌≤◌, [], ◌∷◌, length, map, flat_map, true, IfOk};
 ghost use Rattle.csn_desc.specs.Nodes.{parts_of};
 ghost use Rattle.csn_desc.specs.Formed.{IsDescription};
 ghost use Rattle.csn_desc.specs.declared.desc.TheConstants.{MOST_NODES};
@@ -8,8 +8,11 @@ ghost use Rattle.csn_look.specs.ReachV.{IsReachOf};
 ghost use Rattle.csn_certmake.specs.Rows.{kept_if, IsReachedPart, HaveRows};
 ghost use Rattle.csn_good.specs.Patterns.{leaf_pattern};
 ghost use Rattle.csn_certmake.specs.Patterns.{continued, patterns_in, IsRow, AreRows, sequence_of, times_of, turns_of, choice_of, patterns_at, node_patterns};
+ghost use Rattle.csn_certmake.specs.Behind.{cut_to};
+ghost use Rattle.csn_certmake.specs.Near.{IsFar};
 
-use crate::joining::{after, in_order};
+use crate::joining::{after, cut_all, in_order};
+use crate::near::near_parts;
 use crate::row::Row;
 use csn_bits::NoMemory;
 use csn_cert::Pattern;
@@ -154,16 +157,44 @@ fn before(alloc: Global, part: &Row, rests: &Row) -> Result<Row, NoMemory>
     Ok(row)
 }
 
-/// The patterns of parts one after another.
+/// The patterns of parts one after another. Those of the parts behind the near ones are made first: of their marks none
+/// counts.
 fn sequence(alloc: Global, rows: &[Row], parts: &Parts) -> Result<Row, NoMemory>
     requires { AreRows rows.now parts.now }
     ensures { IfOk result (λ row. IsRow (sequence_of (patterns_at rows.now) parts.now) row) }
 {
-    let mut row = no_bits(alloc)?;
-    for at in (0..parts.len()).rev() {
+    let near = near_parts(rows, parts);
+    let mut row = far(alloc, rows, parts, near)?;
+    for at in (0..near).rev() {
         row = before(alloc, &rows[parts.get(at) as usize], &row)?;
     }
     Ok(row)
+}
+
+/// The patterns of the parts from this one on, without their marks where it is no end.
+fn far(alloc: Global, rows: &[Row], parts: &Parts, from: u16) -> Result<Row, NoMemory>
+    requires rows { AreRows rows.now parts.now }
+    requires within { from ≤ length parts.now }
+    ensures { IfOk result (λ row. IsFar (patterns_at rows.now) parts.now from row) }
+{
+    let mut row = no_bits(alloc)?;
+    for at in (from..parts.len()).rev() {
+        let next = before(alloc, &rows[parts.get(at) as usize], &row)?;
+        row = without_marks(alloc, &next)?;
+    }
+    Ok(row)
+}
+
+/// The patterns of a row without their marks.
+fn without_marks(alloc: Global, row: &Row) -> Result<Row, NoMemory>
+    requires { length row.now ≡ 8 }
+    ensures { IfOk result (λ cut. IsRow (λ octet. map (cut_to 0) (patterns_in row.now octet)) cut) }
+{
+    let mut cut = Row::new(alloc);
+    for octet in 0..8 {
+        cut.push(in_order(cut_all(alloc, row.at(octet), 0)?))?;
+    }
+    Ok(cut)
 }
 
 /// The patterns of a part so many times. Once one time more gives no others, no further time does.
