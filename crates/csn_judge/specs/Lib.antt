@@ -10,5 +10,6 @@ pub mod Credit
 pub mod Reads
 pub mod Judging
 pub mod Following
+pub mod Paused
 pub mod Picked
 pub mod Blocks

@@ -1,10 +1,12 @@
 ghost use Rattle.std.specs.Prelude.{◌≡◌, ℕ, ◌+◌, ◌*◌, ◌≤◌, ⊤, [], length, take, None, Some};
 ghost use Rattle.csn_bits.specs.Octets.{bits_of_octets};
 ghost use Rattle.csn_judge.specs.Judging.{JudgesFor, opened, credit, refusal_of, Judges, Ends};
+ghost use Rattle.csn_judge.specs.Paused.{GoesBy, judge_by};
 ghost use Rattle.csn_judge.specs.Told.{Tells};
 
 use crate::laws;
 use crate::machine::Machine;
+use crate::paused::Paused;
 use crate::source::{Held, Source};
 use crate::track::{NoTrack, Track};
 use crate::verdict::{Judged, Verdict};
@@ -178,6 +180,67 @@ impl<'a> Judge<'a> {
         let judged = self.end(track, steps);
         self.restart();
         judged
+    }
+
+    /// Puts the judge aside between two pieces.
+    pub fn pause(self) -> Paused
+        ensures judge { judge_by self.entry.desc result ≡ self.entry }
+        ensures goes { GoesBy self.entry.desc result }
+    {
+        let Judge {
+            machine,
+            held,
+            place,
+            limit,
+            seen,
+            refused,
+        } = self;
+        let Machine {
+            plan: _,
+            frames,
+            values,
+            pace,
+        } = machine;
+        Paused {
+            frames,
+            values,
+            pace,
+            held,
+            place,
+            limit,
+            seen,
+            refused,
+        }
+    }
+
+    /// The judge that was put aside, by the plan that it had.
+    pub fn resume(plan: &'a Plan, paused: Paused) -> Judge<'a>
+        requires { GoesBy plan.now paused }
+        ensures { result ≡ judge_by plan.now paused }
+    {
+        let Paused {
+            frames,
+            values,
+            pace,
+            held,
+            place,
+            limit,
+            seen,
+            refused,
+        } = paused;
+        Judge {
+            machine: Machine {
+                plan,
+                frames,
+                values,
+                pace,
+            },
+            held,
+            place,
+            limit,
+            seen,
+            refused,
+        }
     }
 
     // The block has ended. The judge refuses whatever comes behind it.
