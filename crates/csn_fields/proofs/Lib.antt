@@ -7,3 +7,4 @@ pub mod ReadingFacts
 pub mod LyingAlong
 pub mod ListFacts
 pub mod OneList
+pub mod StringFacts

@@ -325,7 +325,7 @@ reads_again f g places next numbers b events same follows none start kept t =
 
 -- ---- a block that is there as a whole
 
-told_then : {S : Type 0} (tells : S → Event → S → Type 0) (a b : List Event) (s t u : S) → Told tells a s t → Told tells b t u
+pub told_then : {S : Type 0} (tells : S → Event → S → Type 0) (a b : List Event) (s t u : S) → Told tells a s t → Told tells b t u
     → Told tells (a ++ b) s u
 told_then {S} tells [] b s t u same later =
     let P : S → Type 0 = λ x. Told tells b x u in

@@ -1,6 +1,7 @@
 //! Blocks that are there as a whole.
 
-ghost use Rattle.std.specs.Prelude.{◌≡◌, ◌<◌, [], List};
+ghost use Rattle.std.specs.Prelude.{◌≡◌, ◌<◌, ◌≤◌, ◌*◌, [], List, length, take};
+ghost use Rattle.csn_bits.specs.Octets.{bits_of_octets};
 ghost use Rattle.csn_fields.specs.declared.event.Event.{Event as EventV};
 ghost use Rattle.csn_fields.specs.Numbers.{HasNumbers};
 ghost use Rattle.csn_fields.specs.Lists.{AreLeaves};
@@ -38,7 +39,23 @@ pub fn tell_block<E: Events>(
     requires { HasNumbers plan.now alternatives.now }
     ensures { EndsTold E.tells plan.now block.now [] events result.0 result.1 }
 {
-    tell_with::<E, Brand>(plan, alternatives, block, events, Blank::new(1))
+    tell_octets(plan, alternatives, block.octets(), block.len(), events)
+}
+
+/// The same of a block that is the first `bits` bits of some octets.
+pub fn tell_octets<E: Events>(
+    plan: &Plan,
+    alternatives: &Alternatives,
+    octets: &[u8],
+    bits: u32,
+    events: E,
+) -> (E, Ended)
+    requires numbers { HasNumbers plan.now alternatives.now }
+    requires within { bits ≤ 8 * length octets.now }
+    requires few { bits ≤ 524288 }
+    ensures { EndsTold E.tells plan.now (take bits (bits_of_octets octets.now)) [] events result.0 result.1 }
+{
+    tell_with::<E, Brand>(plan, alternatives, octets, bits, events, Blank::new(1))
 }
 
 /// The leaves of a block, in a list.
@@ -59,7 +76,8 @@ pub fn fields_of(alloc: Global, plan: &Plan, alternatives: &Alternatives, block:
 fn tell_with<E: Events, L: Ledger>(
     plan: &Plan,
     alternatives: &Alternatives,
-    block: &Bits,
+    octets: &[u8],
+    bits: u32,
     events: E,
     blank: Blank,
 ) -> (E, Ended)
@@ -67,10 +85,12 @@ fn tell_with<E: Events, L: Ledger>(
     requires parts { blank.parts ≡ L.parts }
     requires some { 0 < blank.parts }
     requires numbers { HasNumbers plan.now alternatives.now }
-    ensures { EndsTold E.tells plan.now block.now [] events result.0 result.1 }
+    requires within { bits ≤ 8 * length octets.now }
+    requires few { bits ≤ 524288 }
+    ensures { EndsTold E.tells plan.now (take bits (bits_of_octets octets.now)) [] events result.0 result.1 }
 {
     let mut steps = Steps::<L>::new(blank);
     let mut reader = FieldReader::new(plan, alternatives, events);
-    let _verdict = reader.feed(block.octets(), block.len(), &mut steps);
+    let _verdict = reader.feed(octets, bits, &mut steps);
     reader.finish(&mut steps)
 }

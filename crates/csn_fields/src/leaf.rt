@@ -59,7 +59,7 @@ pub(crate) fn kind_of(node: &Node) -> Option<LeafKind>
 }
 
 /// How many bits a leaf has, where that is the same in all blocks.
-pub(crate) fn width_of(node: &Node) -> Option<u32>
+pub fn width_of(node: &Node) -> Option<u32>
     ensures { result ≡ width_of node.now }
 {
     match node {

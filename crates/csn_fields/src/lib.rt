@@ -11,14 +11,16 @@ mod list;
 mod places;
 mod reader;
 mod refusal;
+mod string;
 mod track;
 
 pub use alternatives::Alternatives;
-pub use block::{Fields, fields_of, tell_block};
+pub use block::{Fields, fields_of, tell_block, tell_octets};
 pub use event::{Event, Events};
 pub use follower::Follower;
-pub use leaf::{Leaf, LeafKind, Role};
+pub use leaf::{Leaf, LeafKind, Role, width_of};
 pub use list::LeafList;
 pub use places::Places;
 pub use reader::FieldReader;
 pub use refusal::{Ended, OpenNode, Refusal};
+pub use string::tell_string;

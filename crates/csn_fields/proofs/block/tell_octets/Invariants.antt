@@ -1,4 +1,4 @@
-use Rattle.csn_fields.proofs.block.tell_block.Given as goal
+use Rattle.csn_fields.proofs.block.tell_octets.Given as goal
 
 -- the steps are counted on a ledger of their own
 abbrev pub ghosts-tell_with : goal.ghosts-tell_with
