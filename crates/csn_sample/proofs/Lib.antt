@@ -1,2 +1,6 @@
+pub mod Changes
+pub mod Marked
 pub mod Trees
+pub mod TreesInside
+pub mod WaysUnset
 pub mod Work

@@ -11,13 +11,14 @@ fits_most (Exactly wanted) bits fits = omega (arith, fits)
 fits_most (AtMost most) bits fits = fits
 
 -- the steps of a draw, and then those of its judge
-pub draw_and_judge : (nodes planned asked bits most first before drawn after : ℕ)
-    → planned ≡ nodes → asked ≡ most → first ≡ begun planned asked → bits ≤ most
-    → drawn ≤ before + first → after ≤ drawn + 8 * planned * (bits + 1)
-    → after ≤ before + work nodes most
-draw_and_judge nodes planned asked bits most first before drawn after n a f few draws judges =
-    let shorter : bits + 1 ≤ most + 1 = omega (arith, few) in
-    let longer : 8 * nodes * (bits + 1) ≤ 8 * nodes * (most + 1) = mul-le-mul_left (8 * nodes) shorter in
+pub draw_and_judge : (asked : Length) (nodes planned bits before drawn after : ℕ)
+    → planned ≡ nodes → Fits asked bits
+    → drawn ≤ before + begun nodes (most_of asked) → after ≤ drawn + 8 * planned * (bits + 1)
+    → after ≤ before + work nodes (most_of asked)
+draw_and_judge asked nodes planned bits before drawn after n fits draws judges =
+    let few : bits ≤ most_of asked = fits_most asked bits fits in
+    let shorter : bits + 1 ≤ most_of asked + 1 = omega (arith, few) in
+    let longer : 8 * nodes * (bits + 1) ≤ 8 * nodes * (most_of asked + 1) = mul-le-mul_left (8 * nodes) shorter in
     let judged : after ≤ drawn + 8 * nodes * (bits + 1) =
     subst (λ (k : ℕ). after ≤ drawn + 8 * k * (bits + 1)) n judges in
-    omega (arith, n, a, f, draws, judged, longer)
+    omega (arith, draws, judged, longer)

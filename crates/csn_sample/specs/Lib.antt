@@ -1,2 +1,5 @@
+pub mod Covering
 pub mod Generator
+pub mod Nearly
 pub mod Samples
+pub mod Ways

@@ -26,6 +26,12 @@ pub record IsSample (d : DescV) (asked : Length) (told : Sampled) : Type 0 where
   pub tree : HasTree d told.block told.tree
   pub length : Fits asked (length told.block)
 
+-- a block that is told without its tree has one, and as many bits as were asked for
+pub record IsBlock (d : DescV) (asked : Length) (block : List ℕ) : Type 0 where
+  pub tree : TreeV
+  pub has : HasTree d block tree
+  pub length : Fits asked (length block)
+
 -- how many nodes begin in a draw of a block, at most
 abbrev pub begun : (nodes bits : ℕ) → ℕ
 begun nodes bits = 4 * nodes + 64 * (bits + 1)

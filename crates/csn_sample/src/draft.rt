@@ -175,7 +175,10 @@ impl Draft {
         let start = self.drawn.len();
         for _ in 0..room.most {
             let used = self.drawn.len().saturating_sub(start);
-            if !self.drawn.goes_on(used, room, chart.span(part)) {
+            if !self
+                .drawn
+                .goes_on(used, room, chart.span(part), chart.odds(part))
+            {
                 break;
             }
             let turn = Room {
@@ -238,7 +241,7 @@ impl Draft {
         if !chart.plan.counts(i) {
             return self.draw(chart, part, deep, room, steps);
         }
-        let value = self.drawn.number(chart.span(part).least)?;
+        let value = self.drawn.number(chart.span(part).least, chart.number(i))?;
         self.keep(Number { field: i, value })
     }
 

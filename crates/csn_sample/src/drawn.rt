@@ -162,14 +162,22 @@ impl Drawn {
         Ok(())
     }
 
-    /// The bits of a field of at most 16 bits on which counts stand, and the number that they write. Small numbers come
-    /// more often.
-    pub fn number(&mut self, width: u64) -> Result<u32, Stop> {
+    /// The bits of a field of at most 16 bits on which counts are, and the number that they write: mostly one of those that
+    /// suit, of which small ones come more often.
+    pub fn number(&mut self, width: u64, suits: Span) -> Result<u32, Stop> {
         let width = width.min(16) as u32;
+        let greatest = (1 << width) - 1;
+        let span = if self.generator.one_in(8) {
+            Span::NUMBER
+        } else {
+            suits
+        };
+        let least = span.least.min(greatest);
+        let most = span.most.min(greatest).max(least);
         let number = match self.fill() {
-            Fill::Zeros => 0,
-            Fill::Ones => (1 << width) - 1,
-            Fill::Any => self.small_number(width),
+            Fill::Zeros => least,
+            Fill::Ones => most,
+            Fill::Any => self.number_of(least, most),
         };
         for at in (0..width).rev() {
             self.push(((number >> at) % 2) as u8)?;
@@ -177,13 +185,15 @@ impl Drawn {
         Ok(number as u32)
     }
 
-    /// A number of at most so many bits, of which each number of bits is as likely as another.
-    fn small_number(&mut self, width: u32) -> u64
-        requires { width ≤ 16 }
+    /// A number from one to another. Those near the first come more often.
+    fn number_of(&mut self, least: u64, most: u64) -> u64
+        requires order { least ≤ most }
+        requires small { most < 65536 }
         ensures { result < 65536 }
     {
-        let bits = self.generator.below(u64::from(width) + 1);
-        self.generator.below(1 << bits)
+        let bits = self.generator.below(17);
+        let above = self.generator.below(1 << bits);
+        least + above % (most - least + 1)
     }
 
     /// Which bits the next field gets.
@@ -227,7 +237,8 @@ impl Drawn {
         drawn
     }
 
-    /// How many components of a truncation are drawn: as many as fit, and fill the room where a length is asked for.
+    /// How many components of a truncation are drawn: as many as fit, and fill the room where a length is asked for, with
+    /// those that are wanted.
     pub fn components(&mut self, chart: &Chart<'_>, parts: &Parts, room: Room) -> u16
         ensures { result ≤ length parts.now }
     {
@@ -236,7 +247,7 @@ impl Drawn {
         let mut most = 0;
         for at in 0..parts.len() {
             let part = parts.get(at);
-            if total.most < room.least {
+            if total.most < room.least || chart.wants(part) {
                 least = at + 1;
             }
             total = total.and(chart.span(part));
@@ -248,13 +259,15 @@ impl Drawn {
         least + self.generator.below(u64::from(most - least) + 1) as u16
     }
 
-    /// Whether a free repetition has a turn more, behind so many bits of it.
-    pub fn goes_on(&mut self, used: u64, room: Room, turn: Span) -> bool {
+    /// Whether a free repetition has a turn more, behind so many bits of it. It ends one in so many times.
+    pub fn goes_on(&mut self, used: u64, room: Room, turn: Span, odds: u64) -> bool
+        requires { 0 < odds }
+    {
         let left = room.left(used, Span::NONE);
         if turn.least.max(1) > left.most {
             return false;
         }
-        left.least > 0 || !self.generator.one_in(3)
+        left.least > 0 || !self.generator.one_in(odds)
     }
 }
 

@@ -1,19 +1,20 @@
 //! Blocks that are made to order.
 
-ghost use Rattle.std.specs.Prelude.{◌≡◌, ◌+◌, ◌*◌, ◌≤◌, length, IfOk, IfSome};
-ghost use Rattle.csn_sample.specs.Samples.{HasTree, IsSample, most_of, begun, work};
+ghost use Rattle.std.specs.Prelude.{◌≡◌, ◌+◌, ◌*◌, ◌≤◌, length, IfOk, IfSome, IsTrue};
+ghost use Rattle.csn_desc.specs.TreeV.{TreeV};
+ghost use Rattle.csn_sample.specs.Samples.{Fits, HasTree, IsBlock, IsSample, most_of, begun, work};
 
 use crate::chart::Chart;
 use crate::decoded::decoded;
 use crate::draft::Draft;
 use crate::drawn::Stop;
 use crate::generator::Generator;
-use crate::span::Span;
-use crate::spans::spans;
+use crate::spans::{Spans, plan_spans};
 use crate::wish::Wish;
 use csn_bits::{Bits, NoMemory};
 use csn_certify::{Plan, Steps};
 use csn_desc::Tree;
+use csn_judge::{Judged, judge_block};
 use std::alloc::Global;
 use std::marker::Model;
 use std::sync::ledger::Ledger;
@@ -33,7 +34,7 @@ pub struct Sampled {
 pub struct Sampler<'a> {
     alloc: Global,
     plan: &'a Plan,
-    spans: Vec<Span>,
+    spans: Spans,
     draft: Draft,
 }
 
@@ -55,7 +56,7 @@ impl<'a> Sampler<'a> {
         ensures desc { IfOk result (λ sampler. sampler ≡ plan.now) }
         ensures steps { steps.new ≤ steps.old + length plan.now.nodes }
     {
-        let spans = spans(alloc, plan, steps)?;
+        let spans = plan_spans(alloc, plan, steps)?;
         Ok(Sampler {
             alloc,
             plan,
@@ -100,7 +101,30 @@ impl<'a> Sampler<'a> {
         Ok(None)
     }
 
-    /// One draw of a block, which may come to no string.
+    /// A block that is a string, and as long as was asked, without its tree, in half the time. The steps of its judge are not
+    /// counted.
+    pub fn block<L: Ledger>(
+        &mut self,
+        wish: Wish,
+        seed: u64,
+        steps: &mut Steps<L>,
+    ) -> Result<Option<Bits>, NoMemory>
+        ensures desc { self.new ≡ self.old }
+        ensures told { IfOk result (λ found. IfSome found (IsBlock self.old wish.length)) }
+        ensures steps { steps.new ≤ steps.old + TRIES * begun (length self.old.nodes) (most_of wish.length) }
+    {
+        self.draft.drawn.generator = Generator::new(seed);
+        for _ in 0..TRIES {
+            if let Some(block) = self.draw(wish, &[], steps)? {
+                if is_string(self.plan, &block) {
+                    return Ok(Some(block));
+                }
+            }
+        }
+        Ok(None)
+    }
+
+    /// One draw of a block with its tree, which may come to no string.
     fn attempt<L: Ledger>(
         &mut self,
         wish: Wish,
@@ -111,10 +135,30 @@ impl<'a> Sampler<'a> {
         ensures told { IfOk result (λ found. IfSome found (IsSample self.old wish.length)) }
         ensures steps { steps.new ≤ steps.old + work (length self.old.nodes) (most_of wish.length) }
     {
+        let alloc = self.alloc;
+        let plan = self.plan;
+        let Some(block) = self.draw(wish, wanted, steps)? else {
+            return Ok(None);
+        };
+        judged(alloc, plan, block, steps)
+    }
+
+    /// One draw of a block that is as long as was asked, which may be no string.
+    fn draw<L: Ledger>(
+        &mut self,
+        wish: Wish,
+        wanted: &[bool],
+        steps: &mut Steps<L>,
+    ) -> Result<Option<Bits>, NoMemory>
+        ensures desc { self.new ≡ self.old }
+        ensures fits { IfOk result (λ found. IfSome found (λ block. Fits wish.length (length block))) }
+        ensures steps { steps.new ≤ steps.old + begun (length self.old.nodes) (most_of wish.length) }
+    {
         let begun = most_begun(self.plan, wish.length.most());
         let chart = Chart {
             plan: self.plan,
-            spans: self.spans.as_slice(),
+            bits: self.spans.bits.as_slice(),
+            numbers: self.spans.numbers.as_slice(),
             wanted,
         };
         match self.draft.draw_block(&chart, wish, begun, steps) {
@@ -123,10 +167,23 @@ impl<'a> Sampler<'a> {
             Err(Stop::NoMemory(why)) => return Err(why),
         }
         let block = self.draft.drawn.packed(self.alloc)?;
-        if !wish.length.fits(block.len()) {
-            return Ok(None);
+        if wish.length.fits(block.len()) {
+            Ok(Some(block))
+        } else {
+            Ok(None)
         }
-        judged(self.alloc, self.plan, block, steps)
+    }
+}
+
+/// Whether a block is a string.
+fn is_string(plan: &Plan, block: &Bits) -> bool
+    ensures { IsTrue result → (tree : TreeV) × HasTree plan.now block.now tree }
+{
+    // its length tells that no block has two trees
+    let _count = plan.len();
+    match judge_block(plan, block) {
+        Judged::Ok => true,
+        Judged::Refused { .. } => false,
     }
 }
 

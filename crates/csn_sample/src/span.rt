@@ -18,6 +18,12 @@ impl Span {
         most: MOST_BITS as u64,
     };
 
+    /// Any number on which a count is.
+    pub const NUMBER: Span = Span {
+        least: 0,
+        most: 65535,
+    };
+
     /// As many bits.
     pub fn exactly(bits: u64) -> Span {
         Span {
@@ -56,6 +62,20 @@ impl Span {
             least: self.least.saturating_mul(turns.least),
             most: self.most.saturating_mul(turns.most),
         }
+    }
+
+    /// Of these numbers those of which `m` times the number and `c` more is as many units as a part of such a span has, or
+    /// all of them where there is none.
+    pub fn counting(self, part: Span, unit: u64, m: u64, c: u64) -> Span {
+        let unit = unit.max(1);
+        let m = m.max(1);
+        let least = part.least.div_ceil(unit).saturating_sub(c).div_ceil(m);
+        let most = (part.most / unit).saturating_sub(c) / m;
+        let both = Span {
+            least: self.least.max(least),
+            most: self.most.min(most),
+        };
+        if both.least <= both.most { both } else { self }
     }
 
     /// No more than a block has.

@@ -1,13 +1,13 @@
-use Rattle.std.proofs.Common.{◌≤◌, ℕ, length, refl, ap, arith}
-use Rattle.csn_sample.specs.Samples.{most_of}
-use Rattle.csn_sample.proofs.Work.{fits_most, draw_and_judge}
+use Rattle.std.proofs.Common.{length, ap, subst}
+use Rattle.std.specs.Prelude.{Option, IfSome, List, ℕ}
+use Rattle.csn_sample.specs.Samples.{Fits}
+use Rattle.csn_sample.proofs.Work.{draw_and_judge}
 use Rattle.csn_sample.proofs.sampler.Sampler.attempt.Goals as goal
 
 pub returns-clause-steps : goal.returns-clause-steps
 returns-clause-steps g c =
-    let bits : ℕ = length c.in_ok-block.block in
-    let few : bits ≤ most_of c.args.wish.length =
-    omega (arith, fits_most c.args.wish.length c.len.result (c.if-not-fits.ensures.0 refl), c.len.ensures.count) in
-    draw_and_judge _ (length c.self.inside.plan.now.nodes) c.most.result bits _ c.most_begun-begun.result _
-    c.draw_block.new.steps _ (ap (λ d. length d.nodes) c.self.view_is) c.most.ensures c.most_begun-begun.ensures few
-    c.draw_block.ensures c.judged.ensures.steps
+    let nodes : ℕ = length c.args.self.now.nodes in
+    let fits : Fits c.args.wish.length (length c.in-Some.block) =
+    subst (λ (found : Option (List ℕ)). IfSome found (λ block. Fits c.args.wish.length (length block))) c.in-Some.is c.in_ok-block.ensures.fits in
+    draw_and_judge c.args.wish.length nodes (length c.self.inside.plan.now.nodes) (length c.in-Some.block) c.args.steps.now c.draw.new.steps c.judged.new.steps
+    (ap (λ d. length d.nodes) c.self.view_is) fits c.draw.ensures.steps c.judged.ensures.steps

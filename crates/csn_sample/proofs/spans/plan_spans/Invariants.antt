@@ -1,5 +1,5 @@
 use Rattle.std.proofs.Common.{◌+◌, ◌≤◌, length}
-use Rattle.csn_sample.proofs.spans.spans.Given as goal
+use Rattle.csn_sample.proofs.spans.plan_spans.Given as goal
 
 abbrev pub invariant-loop-i : goal.invariant-loop-i
 invariant-loop-i g l = l.steps + l.i ≤ l.fn.steps + length l.plan.nodes

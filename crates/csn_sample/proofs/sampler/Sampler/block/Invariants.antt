@@ -1,0 +1,7 @@
+use Rattle.std.proofs.Common.{◌≡◌, ◌+◌, ◌*◌, ◌≤◌, length}
+use Rattle.csn_sample.specs.Samples.{begun, most_of}
+use Rattle.csn_sample.proofs.sampler.Sampler.block.Given as goal
+
+abbrev pub invariant-loop : goal.invariant-loop
+invariant-loop g l =
+    (l.self ≡ l.fn.self) × (l.steps ≤ l.fn.steps + l.counter * begun (length l.fn.self.nodes) (most_of l.wish.length))
