@@ -105,6 +105,11 @@ def mistyped(word: str, source: random.Random) -> str:
     return other if other and other != word else word + "x"
 
 
+def chosen(places: list[tuple[Description, int]], count: int, source: random.Random) -> list[tuple[Description, int]]:
+    """So many of the places: each once where there are enough of them."""
+    return source.sample(places, count) if count <= len(places) else source.choices(places, k=count)
+
+
 KINDS = ["`{` lost", "`}` lost", "`;` lost", "`>` lost", "a name mistyped", "a label mistyped", "`0` for `null`", "the end of a list lost", "`|` lost"]
 
 
@@ -143,7 +148,7 @@ def main() -> int:
         for kind in KINDS:
             places = [(d, at) for d in descriptions for at in d.all_of(kind)]
             made = faults = named = 0
-            for description, at in source.sample(places, min(len(places), options.each)):
+            for description, at in chosen(places, options.each, source):
                 mistake = mistake_at(description, kind, at, source)
                 line = mistake.text.count("\n", 0, mistake.place) + 1
                 made += 1
@@ -156,7 +161,8 @@ def main() -> int:
                 elif options.show:
                     print(f"<!-- {kind}: line {line} of <{mistake.rule}>, named {sorted(lines)} -->")
             share = f"{100 * named // faults}" if faults else "-"
-            print(f"| {kind} | {made} | {faults} | {named} | {share} |", flush=True)
+            shown = kind.replace("|", "\\|")
+            print(f"| {shown} | {made} | {faults} | {named} | {share} |", flush=True)
     return 0
 
 

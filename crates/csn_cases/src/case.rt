@@ -2,10 +2,14 @@ ghost use Rattle.std.specs.Prelude.{◌≡◌, ◌≤◌, IfOk};
 
 use crate::shelf::Shelf;
 use csn_catalogue::entries;
+use csn_companion::{Asked, Job, explain, reading_of};
 use csn_io::{MemShelf, MemSink, MemSource, Sink};
 use csn_replay::{BitsWatcher, EntryWatcher, RefusedWatcher, Watcher};
-use csn_run::run;
+use csn_run::{Ended, Outside, run};
 use std::alloc::{AllocError, Global};
+
+/// The word before the words of a run of the companion.
+const COMPANION: &str = "csn_explain";
 
 /// A run, and what it must come to.
 #[derive(Drop)]
@@ -34,17 +38,12 @@ impl Came {
     }
 }
 
-/// The outside of a run.
-#[derive(Drop)]
-struct Outside {
-    shelf: MemShelf,
-    source: MemSource,
-    sink: MemSink,
-}
+/// The outside of a run, in memory.
+type MemOutside = Outside<MemShelf, MemSource, MemSink>;
 
 impl Case {
     /// An outside with the files and the input, which moves so many bytes in a call.
-    fn outside(&self, alloc: Global, files: &Shelf, most: u32) -> Result<Outside, AllocError>
+    fn outside(&self, alloc: Global, files: &Shelf, most: u32) -> Result<MemOutside, AllocError>
         requires { 1 ≤ most }
         ensures unfailed { IfOk result (λ outside. ⟦<MemSink as Sink>⟧.faults outside.sink ≡ 0) }
     {
@@ -57,10 +56,26 @@ impl Case {
         })
     }
 
-    /// Runs it over the files, with an outside that moves so many bytes in a call and with the watchers of the program:
-    /// one for each entry in order, one for refused blocks and one for bits.
-    pub(crate) fn run(&self, alloc: Global, files: &Shelf, most: u32) -> Result<Came, AllocError>
-        requires { 1 ≤ most }
+    /// What the words ask of the companion, where they begin with its name.
+    fn asked(&self) -> Option<Asked<'_>> {
+        let [program, job, file, name, reading] = self.words.as_slice() else {
+            return None;
+        };
+        if program.as_str() != COMPANION {
+            return None;
+        }
+        Some(Asked {
+            job: Job::of_word(job.as_str())?,
+            file: file.as_str(),
+            name: name.as_str(),
+            reading: reading_of(reading.as_str())?,
+        })
+    }
+
+    /// Runs it as one of the program, with its watchers: one for each entry in order, one for refused blocks and one for
+    /// bits.
+    fn run_program(&self, alloc: Global, outside: &mut MemOutside) -> Result<Ended, AllocError>
+        requires unfailed { ⟦<MemSink as Sink>⟧.faults outside.old.sink ≡ 0 }
     {
         let mut watchers: Vec<Box<dyn Watcher>> = Vec::new(alloc);
         for entry in entries() {
@@ -68,15 +83,25 @@ impl Case {
         }
         watchers.push(Box::new(alloc, RefusedWatcher::new(u64::MAX))?)?;
         watchers.push(Box::new(alloc, BitsWatcher::new(u64::MAX))?)?;
+        Ok(run(alloc, &self.words, outside, watchers))
+    }
+
+    /// Runs it over the files, with an outside that moves so many bytes in a call: as one of the companion where its words
+    /// are asked of that, else of the program.
+    pub(crate) fn run(&self, alloc: Global, files: &Shelf, most: u32) -> Result<Came, AllocError>
+        requires { 1 ≤ most }
+    {
         let mut outside = self.outside(alloc, files, most)?;
-        let ended = run(
-            alloc,
-            &self.words,
-            &mut outside.shelf,
-            &mut outside.source,
-            &mut outside.sink,
-            watchers,
-        );
+        let ended = match self.asked() {
+            Some(asked) => explain(
+                alloc,
+                asked,
+                &mut outside.shelf,
+                &mut outside.source,
+                &mut outside.sink,
+            ),
+            None => self.run_program(alloc, &mut outside)?,
+        };
         Ok(Came {
             text: Vec::from_slice(alloc, outside.sink.taken())?,
             status: ended.status(),

@@ -4,7 +4,7 @@ ghost use Rattle.std.specs.Prelude.{◌≤◌};
 
 use csn_io::{MemShelf, MemSink, MemSource};
 use csn_replay::Watcher;
-use csn_run::{Ended, run};
+use csn_run::{Ended, Outside, run};
 use std::alloc::{AllocError, Global};
 use std::collections::BTreeMap;
 use std::process::Abort;
@@ -76,11 +76,13 @@ pub(crate) fn ran_over(
         takes,
         puts,
     } = failing;
-    let mut shelf = MemShelf::new(files, fetches);
-    let mut source = MemSource::new(input, given, takes);
-    let mut sink = MemSink::new(alloc, taken, puts);
-    let ended = run(alloc, &words, &mut shelf, &mut source, &mut sink, watchers);
-    let text = Vec::from_slice(alloc, sink.taken())?;
+    let mut outside = Outside {
+        shelf: MemShelf::new(files, fetches),
+        source: MemSource::new(input, given, takes),
+        sink: MemSink::new(alloc, taken, puts),
+    };
+    let ended = run(alloc, &words, &mut outside, watchers);
+    let text = Vec::from_slice(alloc, outside.sink.taken())?;
     Ok(Ran { ended, text })
 }
 

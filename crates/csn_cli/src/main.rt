@@ -4,7 +4,7 @@
 use csn_catalogue::entries;
 use csn_io::{DirShelf, StdSink, StdSource};
 use csn_replay::{BitsWatcher, EntryWatcher, RefusedWatcher, Watcher};
-use csn_run::{Ended, run};
+use csn_run::{Ended, Outside, run};
 use std::alloc::AllocError;
 use std::env;
 use std::io::{self, ErrorKind};
@@ -32,10 +32,12 @@ fn run_words(rt: &HostRuntime, words: &[String]) -> Result<Ended, AllocError> {
     }
     watchers.push(Box::new(alloc, RefusedWatcher::new(u64::MAX))?)?;
     watchers.push(Box::new(alloc, BitsWatcher::new(u64::MAX))?)?;
-    let mut shelf = DirShelf::new(rt);
-    let mut input = StdSource::new(rt.stdin());
-    let mut out = StdSink::new(rt.stdout());
-    Ok(run(alloc, words, &mut shelf, &mut input, &mut out, watchers))
+    let mut outside = Outside {
+        shelf: DirShelf::new(rt),
+        source: StdSource::new(rt.stdin()),
+        sink: StdSink::new(rt.stdout()),
+    };
+    Ok(run(alloc, words, &mut outside, watchers))
 }
 
 fn main(rt: HostRuntime) -> ExitCode {

@@ -35,11 +35,12 @@ struct Begun {
     indent: u32,
 }
 
-/// A bracket that is missing, before the token with this number.
+/// A bracket that is missing, before the first or the last of some tokens, by their numbers.
 #[derive(Clone, Copy)]
 pub(crate) struct Missing {
     pub kind: TokenKind,
-    pub at: usize,
+    pub first: usize,
+    pub last: usize,
 }
 
 fn is_opening(kind: TokenKind) -> bool {
@@ -174,18 +175,18 @@ fn misplaced(one: Seen, under: u32, top: Option<Open>) -> u32 {
 }
 
 /// How much speaks against a rule with a bracket more before a token.
-fn weigh(alloc: Global, seen: &[Seen], missing: Missing) -> Result<u32, NoMemory> {
+fn weigh(alloc: Global, seen: &[Seen], kind: TokenKind, before: usize) -> Result<u32, NoMemory> {
     let mut weighed = Weighed::new(alloc);
     for at in 0..seen.len() {
         let one = seen[at];
-        if at == missing.at && is_closing(missing.kind) {
-            weighed.bracket(missing.kind)?;
+        if at == before && is_closing(kind) {
+            weighed.bracket(kind)?;
         }
         if one.first {
             weighed.begin_line(one)?;
         }
-        if at == missing.at && is_opening(missing.kind) {
-            weighed.bracket(missing.kind)?;
+        if at == before && is_opening(kind) {
+            weighed.bracket(kind)?;
         }
         weighed.token(one)?;
     }
@@ -254,7 +255,7 @@ fn lesser(
 }
 
 /// The bracket that is missing in a rule that begins at `start`, if it is one, and where it is missing by the way
-/// the lines are laid out: where least speaks against it.
+/// the lines are laid out: the first and the last place that least speaks against.
 pub(crate) fn missing_bracket(
     alloc: Global,
     rule: &[u8],
@@ -270,16 +271,18 @@ pub(crate) fn missing_bracket(
         return Ok(None);
     };
     let seen = seen_in(alloc, rule, tokens, start)?;
-    let mut best = None;
+    let mut first = 0;
+    let mut last = 0;
     let mut least = u32::MAX;
     for at in 1..seen.len() {
-        let missing = Missing { kind, at };
-        let weight = weigh(alloc, &seen, missing)?;
-        let later = weight == least && kind != TokenKind::Greater;
-        if weight < least || later {
+        let weight = weigh(alloc, &seen, kind, at)?;
+        if weight < least {
+            first = at;
+        }
+        if weight <= least {
             least = weight;
-            best = Some(missing);
+            last = at;
         }
     }
-    Ok(best)
+    Ok(Some(Missing { kind, first, last }))
 }

@@ -1,7 +1,8 @@
 //! Where places stand in a text.
 
-ghost use Rattle.std.specs.Prelude.{◌≤◌, ◌+◌, length};
+ghost use Rattle.std.specs.Prelude.{◌≤◌, length, take};
 ghost use Rattle.csn_plan.specs.declared.compiling.TheConstants.{MOST_DESCRIPTION};
+ghost use Rattle.csn_reasons.specs.Spots.{IsBehind, IsSpot};
 
 /// Where a byte of a text stands: its line and its column, both counted from 1. A column counts the bytes of
 /// its line.
@@ -14,6 +15,7 @@ pub struct Spot {
 /// Where the byte at a place stands. A place past the end of the text stands behind its last byte.
 pub fn spot_of(text: &[u8], place: u32) -> Spot
     requires fits { length text.now ≤ MOST_DESCRIPTION }
+    ensures { IsSpot (take place text.now) result.line result.column }
 {
     spot_behind(&text[..(place as usize).min(text.len())])
 }
@@ -21,6 +23,7 @@ pub fn spot_of(text: &[u8], place: u32) -> Spot
 /// Where what follows these bytes stands.
 fn spot_behind(bytes: &[u8]) -> Spot
     requires fits { length bytes.now ≤ MOST_DESCRIPTION }
+    ensures { IsSpot bytes.now result.line result.column }
 {
     let mut spot = Spot { line: 1, column: 1 };
     for byte in bytes {
@@ -33,8 +36,7 @@ fn spot_behind(bytes: &[u8]) -> Spot
 fn behind(spot: Spot, byte: u8) -> Spot
     requires line { spot.line ≤ MOST_DESCRIPTION }
     requires column { spot.column ≤ MOST_DESCRIPTION }
-    ensures line { result.line ≤ spot.line + 1 }
-    ensures column { result.column ≤ spot.column + 1 }
+    ensures { IsBehind byte spot.line spot.column result.line result.column }
 {
     if byte == b'\n' {
         Spot {

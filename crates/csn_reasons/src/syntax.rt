@@ -6,7 +6,7 @@ ghost use Rattle.csn_plan.specs.declared.compiling.TheConstants.{MOST_DESCRIPTIO
 use crate::around::{Chunk, chunk_of, tell_way};
 use crate::asked::Asked;
 use crate::layout::{Missing, missing_bracket};
-use crate::spot::piece;
+use crate::spot::{piece, spot_of};
 use crate::telling::{Told, tell};
 use crate::tokens::{kind_at, start_at, token_from, tokens_of};
 use crate::trial::tell_followers;
@@ -133,13 +133,36 @@ fn rule_unended(tokens: &[Token], at: usize) -> Option<u32> {
     None
 }
 
-/// Writes which bracket is missing about where.
+/// Writes which bracket is missing about where: of a `{` the first place and, where that is in another line, the last one
+/// too; of a `>` the first, and of others the last.
 fn tell_missing(out: &mut Vec<u8>, asked: Asked<'_>, tokens: &[Token], missing: Missing) -> Told
     requires { length asked.text.now ≤ MOST_DESCRIPTION }
 {
-    let before = start_at(tokens, missing.at.saturating_sub(1), 0);
-    let here = start_at(tokens, missing.at, before);
+    let first = spot_of(asked.text, start_at(tokens, missing.first, 0));
+    let last = spot_of(asked.text, start_at(tokens, missing.last, 0));
     match missing.kind {
+        TokenKind::Greater => tell_bracket(out, asked, tokens, missing.kind, missing.first),
+        TokenKind::BraceLeft if first.line != last.line => {
+            tell_bracket(out, asked, tokens, missing.kind, missing.first)?;
+            tell_bracket(out, asked, tokens, missing.kind, missing.last)
+        }
+        _ => tell_bracket(out, asked, tokens, missing.kind, missing.last),
+    }
+}
+
+/// Writes that a bracket may be missing before a token.
+fn tell_bracket(
+    out: &mut Vec<u8>,
+    asked: Asked<'_>,
+    tokens: &[Token],
+    kind: TokenKind,
+    at: usize,
+) -> Told
+    requires { length asked.text.now ≤ MOST_DESCRIPTION }
+{
+    let before = start_at(tokens, at.saturating_sub(1), 0);
+    let here = start_at(tokens, at, before);
+    match kind {
         TokenKind::BraceLeft => tell(
             out,
             asked,

@@ -9,6 +9,8 @@ use Rattle.csn_command.specs.Command.{compat_row, verify_row, ReadsLines, leaves
 use Rattle.csn_command.specs.Command.{leaves_verify}
 use Rattle.csn_command.specs.declared.command.Command.{Command}
 use Rattle.csn_run.specs.Job.{ComesTo}
+use Rattle.csn_run.specs.Outside.{NamesSome}
+use Rattle.csn_run.specs.Ran.{LacksOne}
 use Rattle.csn_run.specs.Result.{comes_first, comes_second, comes_certificate}
 use Rattle.csn_run.proofs.OneResult.{one_rule, one_pair, one_verify, not_compat, over, answers, not_both, not_migrate}
 use Rattle.csn_run.proofs.OneResult.{migrate_not_three, not_two, not_three, not_five, two_not_three}
@@ -66,6 +68,18 @@ row_named (names_one file name reading row is) = rule_row file name reading row
 row_named (names_pair before after name reading row is) = compat_row before after name reading row
 row_named (names_certificate file name reading certificate row is) = verify_row file name reading certificate row
 
+-- the words of `compat` and of `verify` name files
+pub pair_named : {words : List (List ℕ)} {before after name : List ℕ} {reading : Reading} → IsCompat words before after name reading → NamesFile words before
+pair_named {before = before} {after} {name} {reading} row = ([], after ∷ [], names_pair before after name reading row refl)
+
+pub verify_named : {words : List (List ℕ)} {file name certificate : List ℕ} {reading : Reading}
+    → IsVerify words file name reading certificate → NamesFile words file
+verify_named {file = file} {name} {certificate} {reading} row = ([], certificate ∷ [], names_certificate file name reading certificate row refl)
+
+-- words that name a file are a row
+pub row_some : {words : List (List ℕ)} → NamesSome words → IsCommand words
+row_some (file, named) = row_named named.2
+
 -- a file that the run comes to is one that the words name
 pub comes_named : {words : List (List ℕ)} {file : List ℕ} (files : Option (List ℕ → Option (List ℕ))) → ComesTo words files file → NamesFile words file
 comes_named None named = named
@@ -73,6 +87,10 @@ comes_named (Some files) (comes_first behind names) = ([], behind, names)
 comes_named (Some files) (comes_second before name text reading row held fits) = (before ∷ [], [], names_pair before _ name reading row refl)
 comes_named (Some files) (comes_certificate description name text reading rules d row described) =
     (description ∷ [], [], names_certificate description name reading _ row refl)
+
+-- words that come to a file that is not held are a row
+pub row_lacks : {words : List (List ℕ)} (told : Option (List ℕ → Option (List ℕ))) → LacksOne words told → IsCommand words
+row_lacks told (file, comes, lacks) = row_named (comes_named told comes).2
 
 -- the one file that words name is what the run comes to
 pub one_comes : {words : List (List ℕ)} {file name other : List ℕ} {reading : Reading}

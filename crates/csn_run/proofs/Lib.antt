@@ -13,7 +13,7 @@ pub mod OneInput
 pub mod OneResult
 pub mod OneTree
 pub mod PairLemmas
-pub mod Prompt
+pub mod RanLemmas
 pub mod ResultExists
 pub mod ResultLemmas
 pub mod SoakedBlocks

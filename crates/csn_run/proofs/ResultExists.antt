@@ -1,4 +1,4 @@
--- Where the file that the words name is there, a whole run writes something.
+-- Where the files are there that a run comes to, a whole run writes something.
 use Rattle.std.proofs.Common.{◌≡◌, ℕ, ◌≤◌, ◌⊎◌, inl, inr, List, [], ◌∷◌, ◌++◌, length, map, codes, Option, Some, None, IsSome, refl, sym, subst, append_assoc}
 use Rattle.std.proofs.lemmas.Bool.{cases_lt}
 use Rattle.std.proofs.lemmas.List.{append-nil}
@@ -34,7 +34,7 @@ use Rattle.csn_lines.specs.Jobs.{LineJob, by_rule, migrating, segmenting, replay
 use Rattle.csn_run.specs.Result.{AsksFor, asks_by_rule, asks_migrate, asks_segments, Compiles, of_file, of_catalogue}
 use Rattle.csn_run.specs.Result.{of_pair, HasNoJob, long_text, no_plan, no_job, reported, soaked, of_two, long_before}
 use Rattle.csn_run.specs.Result.{long_after, compared, of_certificate, no_description, long_certificate, verified}
-use Rattle.csn_run.specs.Result.{IsDescribed, Result, no_line, lines, asks_replay}
+use Rattle.csn_run.specs.Result.{IsDescribed, Result, no_line, lines, asks_replay, comes_first, comes_second, comes_certificate}
 use Rattle.csn_plan.specs.Compiled.{HasJob}
 use Rattle.csn_look.specs.declared.word.TheConstants.{MOST_WORD}
 use Rattle.csn_certify.specs.declared.conflict.Conflict.{Conflict}
@@ -146,24 +146,20 @@ module _ (known : KnownOfTexts) (decides : MeaningIsDecided) (each_in_job : Line
         compiled (inr answer) job = job_result (by_rule answer.0 job.1 name reading)
             (asks_by_rule answer.0 file name text reading job.1 job.2 answer.1 held job.0 job.3 refl)
 
-    pair_result : (before after name was now : List ℕ) (reading : Reading)
-        (row : IsCompat words before after name reading) → files before ≡ Some was → files after ≡ Some now
-        → HasResult
-    pair_result before after name was now reading row held has = elim (cases_lt MOST_DESCRIPTION (length was)) [
-      | inl long ↦ ([], TooLong, no_line (of_two before after name reading row (long_before was held long refl refl)))
-      | inr few ↦ elim (cases_lt MOST_DESCRIPTION (length now)) [
-        | inl long ↦ ([], TooLong, no_line (of_two before after name reading row (long_after was now held few has long refl refl)))
-        | inr small ↦ elim (first_told [] (rule_of was name reading ∷ rule_of now name reading ∷ [])
-            (of_pair before after name was now reading row held has few small refl) tt) [
-              | inl result ↦ result
-              | inr all ↦ both few small all.0 all.1.0
-            ]
-      ]
+    pair_fitted : (before after name was now : List ℕ) (reading : Reading)
+        (row : IsCompat words before after name reading) → files before ≡ Some was → length was ≤ MOST_DESCRIPTION
+        → files after ≡ Some now → HasResult
+    pair_fitted before after name was now reading row held few has = elim (cases_lt MOST_DESCRIPTION (length now)) [
+      | inl long ↦ ([], TooLong, no_line (of_two before after name reading row (long_after was now held few has long refl refl)))
+      | inr small ↦ elim (first_told [] (rule_of was name reading ∷ rule_of now name reading ∷ [])
+          (of_pair before after name was now reading row held has few small refl) tt) [
+            | inl result ↦ result
+            | inr all ↦ both small all.0 all.1.0
+          ]
     ]
       where
-        both : length was ≤ MOST_DESCRIPTION → length now ≤ MOST_DESCRIPTION → HasJob (rule_of was name reading)
-            → HasJob (rule_of now name reading) → HasResult
-        both few small job other = elim (decided.compared before after name reading job.2 other.2 row job.3.certified other.3.certified) [
+        both : length now ≤ MOST_DESCRIPTION → HasJob (rule_of was name reading) → HasJob (rule_of now name reading) → HasResult
+        both small job other = elim (decided.compared before after name reading job.2 other.2 row job.3.certified other.3.certified) [
           | inl takes ↦ (
             codes "ok compat" ++ 10 ∷ [],
             Done,
@@ -180,10 +176,20 @@ module _ (known : KnownOfTexts) (decides : MeaningIsDecided) (each_in_job : Line
           )
         ]
 
+    -- the new file is there where the old one fits
+    pair_result : (before after name was : List ℕ) (reading : Reading)
+        (row : IsCompat words before after name reading) → files before ≡ Some was
+        → (length was ≤ MOST_DESCRIPTION → (now : List ℕ) × (files after ≡ Some now)) → HasResult
+    pair_result before after name was reading row held there = elim (cases_lt MOST_DESCRIPTION (length was)) [
+      | inl long ↦ ([], TooLong, no_line (of_two before after name reading row (long_before was held long refl refl)))
+      | inr few ↦ (let now = there few in pair_fitted before after name was now.0 reading row held few now.1)
+    ]
+
     -- a rule of a text that fits has a description, or a line that says why not
-    module _ (file name certificate text bytes : List ℕ) (reading : Reading)
+    module _ (file name certificate text : List ℕ) (reading : Reading)
         (row : IsVerify words file name reading certificate) (held : files file ≡ Some text)
-        (has : files certificate ≡ Some bytes) where
+        (there : (rules : RulesV) (d : DescV) → IsDescribed files file name text reading rules d
+        → (bytes : List ℕ) × (files certificate ≡ Some bytes)) where
       undescribed : length text ≤ MOST_DESCRIPTION → (line : List ℕ) → HasNoPlan text name reading line BadDescription → HasResult
       undescribed fits line none = (
         line ++ 10 ∷ [],
@@ -193,16 +199,20 @@ module _ (known : KnownOfTexts) (decides : MeaningIsDecided) (each_in_job : Line
       )
 
       measured : (rules : RulesV) (d : DescV) → IsDescribed files file name text reading rules d → HasResult
-      measured rules d is = elim (cases_lt MOST_CERTIFICATE (length bytes)) [
-        | inl long ↦ ([], TooLong, no_line (of_certificate file name reading certificate row (long_certificate text bytes rules d is has long refl refl)))
+      measured rules d is = (let bytes = there rules d is in elim (cases_lt MOST_CERTIFICATE (length bytes.0)) [
+        | inl long ↦ (
+          [],
+          TooLong,
+          no_line (of_certificate file name reading certificate row (long_certificate text bytes.0 rules d is bytes.1 long refl refl)),
+        )
         | inr few ↦
-            let told' = decided.verified file name certificate reading d bytes row has in (
+            let told' = decided.verified file name certificate reading d bytes.0 row bytes.1 in (
               told'.0 ++ 10 ∷ [],
               told'.1,
               no_line (of_certificate file name reading certificate row
-                  (verified text bytes told'.0 rules d is has few told'.2 refl)),
+                  (verified text bytes.0 told'.0 rules d is bytes.1 few told'.2 refl)),
             )
-      ]
+      ])
 
       by_names : length text ≤ MOST_DESCRIPTION → (rules : RulesV) → HasRules text rules → HasResult
       by_names fits rules has_rules = elim (known.answered rules reading name (known.shaped text rules has_rules)) [
@@ -250,17 +260,17 @@ module _ (known : KnownOfTexts) (decides : MeaningIsDecided) (each_in_job : Line
 
 pub some_result : KnownOfTexts → MeaningIsDecided → LinesHaveAnswers → RunsHaveResults
 some_result known decides each_in_job words files watchers input (rule_row file name reading row) held decided told =
-    let text = held_text (files file) (held file ([], [], names_one file name reading row refl)) in
+    let text = held_text (files file) (held file (comes_first [] (names_one file name reading row refl))) in
     rule_result known decides each_in_job words files watchers input decided told file name text.0 reading row text.1
 some_result known decides each_in_job words files watchers input (entries_row entries reading row) held decided told =
     entries_result known decides each_in_job words files watchers input decided told entries reading row
 some_result known decides each_in_job words files watchers input (migrate_row row) held decided told =
     job_result known decides each_in_job words files watchers input migrating (asks_migrate row refl)
 some_result known decides each_in_job words files watchers input (compat_row before after name reading row) held decided told =
-    let was = held_text (files before) (held before ([], after ∷ [], names_pair before after name reading row refl)) in
-    let now = held_text (files after) (held after (before ∷ [], [], names_pair before after name reading row refl)) in
-    pair_result known decides each_in_job words files watchers input decided told before after name was.0 now.0 reading row was.1 now.1
+    let was = held_text (files before) (held before (comes_first (after ∷ []) (names_pair before after name reading row refl))) in
+    pair_result known decides each_in_job words files watchers input decided told before after name was.0 reading row was.1
+    (λ few. held_text (files after) (held after (comes_second before name was.0 reading row was.1 few)))
 some_result known decides each_in_job words files watchers input (verify_row file name reading certificate row) held decided told =
-    let text = held_text (files file) (held file ([], certificate ∷ [], names_certificate file name reading certificate row refl)) in
-    let bytes = held_text (files certificate) (held certificate (file ∷ [], [], names_certificate file name reading certificate row refl)) in
-    verify_result known decides each_in_job words files watchers input decided told file name certificate text.0 bytes.0 reading row text.1 bytes.1
+    let text = held_text (files file) (held file (comes_first (certificate ∷ []) (names_certificate file name reading certificate row refl))) in
+    verify_result known decides each_in_job words files watchers input decided told file name certificate text.0 reading row text.1
+    (λ rules d is. held_text (files certificate) (held certificate (comes_certificate file name text.0 reading rules d row is)))

@@ -1,5 +1,5 @@
--- What a run has written when it is over, over files, an input and an output that are told.
-use Rattle.std.proofs.Common.{◌≡◌, ℕ, ◌+◌, ◌≤◌, Bool, true, false, ◌⊎◌, inl, inr, List, [], ◌∷◌, ◌++◌, length, take}
+-- What a run has written when it is over, over files that are told.
+use Rattle.std.proofs.Common.{◌≡◌, ℕ, ◌+◌, ◌≤◌, Bool, true, false, ◌⊎◌, inl, inr, List, [], ◌∷◌, ◌++◌, length}
 use Rattle.std.proofs.Common.{Option, Some, None, Result, Ok, Err, refl, sym, ◌∙◌, ap, subst, arith, append_assoc}
 use Rattle.std.proofs.Common.{length-append}
 use Rattle.std.proofs.lemmas.List.{append-nil, take-append-le}
@@ -14,7 +14,7 @@ use Rattle.csn_plan.specs.declared.ended.Ended.TheVariants.{ReadFault, WriteFaul
 use Rattle.csn_lines.specs.declared.fault.Fault.{Fault}
 use Rattle.csn_lines.specs.declared.fault.Fault.TheVariants.{Read, Write, Memory, TooLong}
 use Rattle.csn_lines.specs.declared.lines.TheConstants.{MOST_INPUT}
-use Rattle.csn_lines.specs.Progress.{EndsIn, StopsBy}
+use Rattle.csn_lines.specs.Progress.{EndsIn, KeepsUp, StopsBy}
 use Rattle.csn_command.specs.Command.{ReadsLines, leaves_report, leaves_soak, leaves_compat, leaves_verify}
 use Rattle.csn_run.specs.Known.{KnownOfTexts}
 use Rattle.csn_plan.specs.Compiled.{no_rules, rules_refused, not_certified}
@@ -22,13 +22,15 @@ use Rattle.csn_run.specs.Told.{compares_ok, compares_no, verifies_good, verifies
 use Rattle.csn_run.specs.Job.{JobEnds, unread, before_lines, all_lines, some_lines, end_with, IsBeforeLines, EndedBefore, Asked}
 use Rattle.csn_lines.specs.Ends.{end_by, end_of}
 use Rattle.csn_lines.specs.Jobs.{LineJob, Steps, beginning}
+use Rattle.csn_run.specs.Outside.{GoesByFiles, IsLeft, Passes}
+use Rattle.csn_run.specs.Ran.{ComesToNoLine}
 use Rattle.csn_run.specs.Result as whole
 use Rattle.csn_run.specs.Laws.{LinesHaveAnswers}
 use Rattle.csn_run.proofs.Extends.{extends}
 use Rattle.csn_run.proofs.OneResult.{before_or_job}
 use Rattle.csn_lines.proofs.Within.{within_input}
 
--- ---- what is told
+-- ---- what passed
 
 -- nothing in front of nothing
 no_front : (front rest : List ℕ) → front ++ rest ≡ [] → front ≡ []
@@ -46,16 +48,69 @@ given_all whole given left' g none =
     let nothing : g.0 ≡ [] = subst NothingLeft g.2 none in
     g.1 ∙ ap (λ l. given ++ l) nothing ∙ append-nil given
 
+-- a source that has left what it had gave nothing
+pub given_none : (left left' : Option (List ℕ)) → left' ≡ left → Gave left left' []
+given_none None left' same = same
+given_none (Some left) left' same = (left, refl, same)
+
+-- what a source has left, and that it is nothing
+pub some_left : (left : Option (List ℕ)) → (rest : List ℕ) × IsLeft left rest
+some_left None = ([], tt)
+some_left (Some left) = (left, refl)
+
+none_left : (left : Option (List ℕ)) → NothingLeft left → IsLeft left []
+none_left None none = tt
+none_left (Some left) none = none
+
 -- what a sink took in a job, and then of what waited
-pub taken_then : (before : List ℕ) (taken' taken'' : Option (List ℕ)) (took front : List ℕ)
-    → Appended (Some before) taken' took → Appended taken' taken'' front → taken'' ≡ Some (before ++ (took ++ front))
-taken_then before taken' taken'' took front job rest =
+taken_then : (taken taken' taken'' : Option (List ℕ)) (took front : List ℕ)
+    → Appended taken taken' took → Appended taken' taken'' front → Appended taken taken'' (took ++ front)
+taken_then None taken' taken'' took front job rest = rest ∙ ap (option_map (λ taken. taken ++ front)) job
+taken_then (Some before) taken' taken'' took front job rest =
     rest ∙ ap (option_map (λ taken. taken ++ front)) job ∙ ap Some (append_assoc before took front)
 
--- what waited of a job that had handed on nothing
-pub handed_front : (before front : List ℕ) (taken' taken'' : Option (List ℕ))
-    → taken' ≡ Some before → Appended taken' taken'' front → taken'' ≡ Some (before ++ front)
-handed_front before front taken' taken'' same handed = handed ∙ ap (option_map (λ taken. taken ++ front)) same
+-- nothing was read of a source, and a sink took the front of what waited
+pub passes_front : {P : List ℕ → List ℕ → List ℕ → Type 0} (left left' taken taken' taken'' : Option (List ℕ)) (front : List ℕ)
+    → left' ≡ left → taken' ≡ taken → Appended taken' taken'' front → ((rest : List ℕ) → P [] rest front) → Passes left left' taken taken'' P
+passes_front left left' taken taken' taken'' front same_left same_taken handed holds =
+    let rest = some_left left' in record {
+      given = [];
+      rest = rest.0;
+      written = front;
+      source = given_none left left' same_left;
+      rest_is = rest.1;
+      sink = handed ∙ ap (option_map (λ taken. taken ++ front)) same_taken;
+      holds = holds rest.0;
+    }
+
+-- some of an input was read, and a sink took some bytes and then the front of what waited
+passes_some : {P : List ℕ → List ℕ → List ℕ → Type 0} (left left' taken taken' taken'' : Option (List ℕ)) (given took front : List ℕ)
+    → Gave left left' given → Appended taken taken' took → Appended taken' taken'' front → ((rest : List ℕ) → P given rest (took ++ front))
+    → Passes left left' taken taken'' P
+passes_some left left' taken taken' taken'' given took front gave sink handed holds =
+    let rest = some_left left' in record {
+      given = given;
+      rest = rest.0;
+      written = took ++ front;
+      source = gave;
+      rest_is = rest.1;
+      sink = taken_then taken taken' taken'' took front sink handed;
+      holds = holds rest.0;
+    }
+
+-- all of it was read
+passes_all : {P : List ℕ → List ℕ → List ℕ → Type 0} (left left' taken taken' taken'' : Option (List ℕ)) (given took front : List ℕ)
+    → Gave left left' given → NothingLeft left' → Appended taken taken' took → Appended taken' taken'' front
+    → P given [] (took ++ front) → Passes left left' taken taken'' P
+passes_all left left' taken taken' taken'' given took front gave none sink handed holds = record {
+  given = given;
+  rest = [];
+  written = took ++ front;
+  source = gave;
+  rest_is = none_left left' none;
+  sink = taken_then taken taken' taken'' took front sink handed;
+  holds = holds;
+}
 
 -- ---- the end of a run
 
@@ -89,94 +144,88 @@ unfinished : (fault : Fault) (ended : Ended) (end : Result Ended Fault) → ende
     → whole.IsFinished ended → whole.IsFinished (end_by fault)
 unfinished fault ended end is e finished = subst whole.IsFinished (is ∙ ap end_with e) finished
 
-module _ (words : List (List ℕ)) (files : List ℕ → Option (List ℕ)) (watchers : List Watched) (input before : List ℕ) where
-  abbrev Written : Option (List ℕ) → (List ℕ → Type 0) → Type 0
-  Written taken'' P = (written : List ℕ) × (taken'' ≡ Some (before ++ written)) × P written
+-- no answer is kept back of a text that goes on
+keeps_up_longer : {St : Type 0} {Step : St → List ℕ → List ℕ → St → Type 0} {begin : St} {given text : List ℕ}
+    (more : List ℕ) → KeepsUp Step begin given text → KeepsUp Step begin given (text ++ more)
+keeps_up_longer more k = record {
+  before = k.before;
+  piece = k.piece;
+  front = k.front;
+  rest = k.rest ++ more;
+  given_is = k.given_is;
+  short = k.short;
+  stopped = k.stopped;
+  text_is = ap (λ l. l ++ more) k.text_is ∙ append_assoc k.front k.rest more;
+}
 
+module _ (words : List (List ℕ)) (files : List ℕ → Option (List ℕ)) (watchers : List Watched) (left left' taken taken' taken'' : Option (List ℕ)) where
   -- what a run has written whose job is over, where all that waited was handed on
   pub result_of :
-      (left' taken' taken'' : Option (List ℕ)) (waits : List ℕ) (end : Result Ended Fault) (ended : Ended)
-      → JobEnds words (Some files) watchers (Some input) left' (Some before) taken' waits end → Appended taken' taken'' waits
-      → ended ≡ end_with end → whole.IsFinished ended → Written taken'' (λ written. whole.Result words files watchers input written ended)
-  result_of left' taken' taken'' waits end ended (unread same_left same_taken none cause) handed is finished =
+      (waits : List ℕ) (end : Result Ended Fault) (ended : Ended)
+      → JobEnds words (Some files) watchers left left' taken taken' waits end → Appended taken' taken'' waits
+      → ended ≡ end_with end → whole.IsFinished ended
+      → Passes left left' taken taken'' (λ given rest written. whole.Result words files watchers (given ++ rest) written ended)
+  result_of waits end ended (unread same_left same_taken none cause) handed is finished =
       elim cause [
         | inl e ↦ absurd (unfinished Read ended end is e finished)
         | inr e ↦ absurd (unfinished Memory ended end is e finished)
       ]
-  result_of left' taken' taken'' waits end ended (before_lines gives same_left same_taken) handed is finished = (
-    waits,
-    handed_front before waits taken' taken'' same_taken handed,
-    whole.no_line (subst (λ (d : Ended). whole.EndsBefore words files waits d) (sym is) gives),
-  )
-  result_of left' taken' taken'' waits end ended (all_lines job refused asked a e) handed is finished =
-      let all = given_all input a.given left' a.source a.nothing_left in (
-        a.took ++ waits,
-        taken_then before taken' taken'' a.took waits a.sink handed,
-        whole.lines job asked (subst (λ (i : List ℕ). whole.AnswersInput job i (a.took ++ waits) ended) (sym all)
-            (whole.answers_all a.text a.after refused a.fits a.answers a.closed
-            (end_after_lines refused ended end is e))),
-      )
-  result_of left' taken' taken'' waits end ended (some_lines job Read asked s e) handed is finished = absurd (unfinished Read ended end is e finished)
-  result_of left' taken' taken'' waits end ended (some_lines job Write asked s e) handed is finished = absurd (unfinished Write ended end is e finished)
-  result_of left' taken' taken'' waits end ended (some_lines job Memory asked s e) handed is finished = absurd (unfinished Memory ended end is e finished)
-  result_of left' taken' taken'' waits end ended (some_lines job TooLong asked s e) handed is finished =
-      let front = given_front input s.given left' s.source in
-      let after = s.by.1 in
+  result_of waits end ended (before_lines gives same_left same_taken) handed is finished =
+      passes_front left left' taken taken' taken'' waits same_left same_taken handed
+      (λ rest. whole.no_line (subst (λ (d : Ended). whole.EndsBefore words files waits d) (sym is) gives))
+  result_of waits end ended (all_lines job refused asked a e) handed is finished =
+      passes_all left left' taken taken' taken'' a.given a.took waits a.source a.nothing_left a.sink handed
+      (whole.lines job asked (subst (λ (i : List ℕ). whole.AnswersInput job i (a.took ++ waits) ended) (sym (append-nil a.given))
+      (whole.answers_all a.text a.after refused a.fits a.answers a.closed (end_after_lines refused ended end is e))))
+  result_of waits end ended (some_lines job Read asked s e) handed is finished = absurd (unfinished Read ended end is e finished)
+  result_of waits end ended (some_lines job Write asked s e) handed is finished = absurd (unfinished Write ended end is e finished)
+  result_of waits end ended (some_lines job Memory asked s e) handed is finished = absurd (unfinished Memory ended end is e finished)
+  result_of waits end ended (some_lines job TooLong asked s e) handed is finished =
+      passes_some left left' taken taken' taken'' s.given s.took waits s.source s.sink handed
+      (λ rest. (let after = s.by.1 in
       let fits : MOST_INPUT ≤ length s.given = omega (arith, s.by.0) in
-      let same : take MOST_INPUT s.given ≡ take MOST_INPUT input =
-      sym (take-append-le MOST_INPUT s.given front.0 fits) ∙ ap (take MOST_INPUT) (sym front.1) in (
-        s.took ++ waits,
-        taken_then before taken' taken'' s.took waits s.sink handed,
-        whole.lines job asked (whole.answers_front after.ended after.line after.after after.refused
-            (omega (arith, s.by.0, ap length front.1, length-append s.given front.0))
-            (subst (λ (i : List ℕ). EndsIn i after.ended after.line) same after.ends) after.answers
-            (is ∙ ap end_with e)),
-      )
+      whole.lines job asked (whole.answers_front after.ended after.line after.after after.refused
+      (omega (arith, s.by.0, length-append s.given rest))
+      (subst (λ (i : List ℕ). EndsIn i after.ended after.line) (sym (take-append-le MOST_INPUT s.given rest fits)) after.ends)
+      after.answers (is ∙ ap end_with e))))
 
   -- ---- what stands written where a run was stopped
 
   -- what a run has written, of which the sink took the front of what waited
   pub begun_of :
-      LinesHaveAnswers → (left' taken' taken'' : Option (List ℕ)) (waits front rest : List ℕ) (end : Result Ended Fault)
-      → JobEnds words (Some files) watchers (Some input) left' (Some before) taken' waits end → waits ≡ front ++ rest
-      → Appended taken' taken'' front → Written taken'' (whole.BeginsResult words files watchers input)
-  begun_of each_in_job left' taken' taken'' waits front rest end (unread same_left same_taken none cause) split handed =
-      (front, handed_front before front taken' taken'' same_taken handed, whole.begins_none (no_front front rest (sym split ∙ none)))
-  begun_of each_in_job left' taken' taken'' waits front rest end (before_lines gives same_left same_taken) split handed = (
-    front,
-    handed_front before front taken' taken'' same_taken handed,
-    whole.begins_whole rest (end_with end) (whole.no_line (subst (λ (w : List ℕ). whole.EndsBefore words files w (end_with end)) split gives)),
-  )
-  begun_of each_in_job left' taken' taken'' waits front rest end (all_lines job refused asked a e) split handed =
-      let all = given_all input a.given left' a.source a.nothing_left in
-      let text_is : a.took ++ waits ≡ (a.took ++ front) ++ rest = ap (λ l. a.took ++ l) split ∙ sym (append_assoc a.took front rest) in (
-        a.took ++ front,
-        taken_then before taken' taken'' a.took front a.sink handed,
-        whole.begins_whole rest (end_of refused)
-            (whole.lines job asked
-            (subst (λ (i : List ℕ). whole.AnswersInput job i ((a.took ++ front) ++ rest) (end_of refused)) (sym all)
-            (whole.answers_all a.text a.after refused a.fits a.answers (sym text_is ∙ a.closed) refl))),
-      )
-  begun_of each_in_job left' taken' taken'' waits front rest end (some_lines job fault asked s e) split handed =
-      let given = given_front input s.given left' s.source in
+      LinesHaveAnswers → (waits front rest : List ℕ) (end : Result Ended Fault)
+      → JobEnds words (Some files) watchers left left' taken taken' waits end → waits ≡ front ++ rest → Appended taken' taken'' front
+      → Passes left left' taken taken'' (λ given rest written. whole.BeginsResult words files watchers (given ++ rest) written)
+  begun_of each_in_job waits front rest end (unread same_left same_taken none cause) split handed =
+      passes_front left left' taken taken' taken'' front same_left same_taken handed
+      (λ more. whole.begins_none (no_front front rest (sym split ∙ none)))
+  begun_of each_in_job waits front rest end (before_lines gives same_left same_taken) split handed =
+      passes_front left left' taken taken' taken'' front same_left same_taken handed
+      (λ more. whole.begins_whole rest (end_with end)
+      (whole.no_line (subst (λ (w : List ℕ). whole.EndsBefore words files w (end_with end)) split gives)))
+  begun_of each_in_job waits front rest end (all_lines job refused asked a e) split handed =
+      let text_is : a.took ++ waits ≡ (a.took ++ front) ++ rest = ap (λ l. a.took ++ l) split ∙ sym (append_assoc a.took front rest) in
+      passes_all left left' taken taken' taken'' a.given a.took front a.source a.nothing_left a.sink handed
+      (whole.begins_whole rest (end_of refused) (whole.lines job asked
+      (subst (λ (i : List ℕ). whole.AnswersInput job i ((a.took ++ front) ++ rest) (end_of refused)) (sym (append-nil a.given))
+      (whole.answers_all a.text a.after refused a.fits a.answers (sym text_is ∙ a.closed) refl))))
+  begun_of each_in_job waits front rest end (some_lines job fault asked s e) split handed =
       let text_is : s.took ++ waits ≡ (s.took ++ front) ++ rest = ap (λ l. s.took ++ l) split ∙ sym (append_assoc s.took front rest) in
-      let within = within_input (Steps job) fault input s.given given.0 (s.took ++ waits) (s.took ++ front) rest given.1 text_is s.by in
-      let all = extends job (each_in_job words files watchers job asked) input (s.took ++ front) within in (
-        s.took ++ front,
-        taken_then before taken' taken'' s.took front s.sink handed,
-        whole.begins_whole all.0 all.1 (whole.lines job asked all.2),
-      )
+      passes_some left left' taken taken' taken'' s.given s.took front s.source s.sink handed
+      (λ more. (let within = within_input (Steps job) fault (s.given ++ more) s.given more (s.took ++ waits) (s.took ++ front) rest refl text_is s.by in
+      let all = extends job (each_in_job words files watchers job asked) (s.given ++ more) (s.took ++ front) within in
+      whole.begins_whole all.0 all.1 (whole.lines job asked all.2)))
 
   -- ---- a fault of the outside while it is read
 
   -- what a run has written that a fault of the source, or of the shelf, stopped
   pub read_of :
-      (left' taken' taken'' : Option (List ℕ)) (waits : List ℕ) (end : Result Ended Fault)
-      → JobEnds words (Some files) watchers (Some input) left' (Some before) taken' waits end → Appended taken' taken'' waits
-      → ReadFault ≡ end_with end → Written taken'' (whole.StopsReading words files watchers input left')
-  read_of left' taken' taken'' waits end (unread same_left same_taken none cause) handed fault =
-      (waits, handed_front before waits taken' taken'' same_taken handed, whole.before_reading same_left none)
-  read_of left' taken' taken'' waits end (before_lines gives same_left same_taken) handed fault =
+      (waits : List ℕ) (end : Result Ended Fault)
+      → JobEnds words (Some files) watchers left left' taken taken' waits end → Appended taken' taken'' waits → ReadFault ≡ end_with end
+      → Passes left left' taken taken'' (λ given rest written. whole.StopsReading words files watchers given written)
+  read_of waits end (unread same_left same_taken none cause) handed fault =
+      passes_front left left' taken taken' taken'' waits same_left same_taken handed (λ rest. whole.before_reading refl none)
+  read_of waits end (before_lines gives same_left same_taken) handed fault =
       absurd (no_read waits (subst (λ (d : Ended). whole.EndsBefore words files waits d) (sym fault) gives))
     where
       no_read : (written : List ℕ) → whole.EndsBefore words files written ReadFault → ⊥
@@ -188,28 +237,43 @@ module _ (words : List (List ℕ)) (files : List ℕ → Option (List ℕ)) (wat
       no_read written (whole.soaked entry n rules d counts row fits compiled from is e) = cc
       no_read written (whole.of_two old new name reading row ends) = pair_apart ends ((λ h. cc), (λ h. cc), (λ h. cc))
       no_read written (whole.of_certificate file name reading certificate row ends) = verify_apart ends ((λ h. cc), (λ h. cc), (λ h. cc), (λ h. cc))
-  read_of left' taken' taken'' waits end (all_lines job refused asked a e) handed fault = absurd (no_read refused (fault ∙ ap end_with e))
+  read_of waits end (all_lines job refused asked a e) handed fault = absurd (no_read refused (fault ∙ ap end_with e))
     where
       no_read : (refused : Bool) → ReadFault ≡ end_of refused → ⊥
       no_read true e = cc
       no_read false e = cc
-  read_of left' taken' taken'' waits end (some_lines job cause asked s e) handed fault =
-      let given = given_front input s.given left' s.source in
-      let is_read : cause ≡ Read = is_read_end cause (fault ∙ ap end_with e) in (
-        s.took ++ waits,
-        taken_then before taken' taken'' s.took waits s.sink handed,
-        whole.while_reading s.given given.0 given.1 given.2 (record {
-          job = job;
-          asked = asked;
-          stopped = (subst (λ (f : Fault). StopsBy (Steps job) (beginning job) f s.given (s.took ++ waits)) is_read s.by).1;
-        }),
-      )
+  read_of waits end (some_lines job cause asked s e) handed fault =
+      let is_read : cause ≡ Read = is_read_end cause (fault ∙ ap end_with e) in
+      passes_some left left' taken taken' taken'' s.given s.took waits s.source s.sink handed
+      (λ rest. whole.while_reading (record {
+        job = job;
+        asked = asked;
+        stopped = (subst (λ (f : Fault). StopsBy (Steps job) (beginning job) f s.given (s.took ++ waits)) is_read s.by).1;
+      }))
     where
       is_read_end : (cause : Fault) → ReadFault ≡ end_by cause → cause ≡ Read
       is_read_end Read e = refl
       is_read_end Write e = cc
       is_read_end Memory e = cc
       is_read_end TooLong e = cc
+
+  -- ---- no answer is kept back
+
+  -- what a run has written, of which the sink took the front of what waited
+  pub prompt_of :
+      (waits front : List ℕ) (end : Result Ended Fault)
+      → JobEnds words (Some files) watchers left left' taken taken' waits end → Appended taken' taken'' front
+      → Passes left left' taken taken'' (λ given rest written. whole.AnswersPromptly words files watchers given written)
+  prompt_of waits front end (unread same_left same_taken none cause) handed =
+      passes_front left left' taken taken' taken'' front same_left same_taken handed (λ rest. whole.nothing_read refl)
+  prompt_of waits front end (before_lines gives same_left same_taken) handed =
+      passes_front left left' taken taken' taken'' front same_left same_taken handed (λ rest. whole.nothing_read refl)
+  prompt_of waits front end (all_lines job refused asked a e) handed =
+      passes_all left left' taken taken' taken'' a.given a.took front a.source a.nothing_left a.sink handed
+      (whole.some_read job asked (keeps_up_longer front a.keeps_up))
+  prompt_of waits front end (some_lines job fault asked s e) handed =
+      passes_some left left' taken taken' taken'' s.given s.took front s.source s.sink handed
+      (λ rest. whole.some_read job asked (keeps_up_longer front s.keeps_up))
 
 -- ---- what is left of the input
 
@@ -298,12 +362,13 @@ bounded_of words files watchers whole rest left' taken taken' waits end (some_li
 
 -- it leaves the source alone
 pub untouched :
-    {S : Type 0} (known : KnownOfTexts) (words : List (List ℕ)) (files : List ℕ → Option (List ℕ))
-    (watchers : List Watched) (written : List ℕ) (ended : Ended) (old new : S)
-    → whole.EndsBefore words files written ended
-    → (new ≡ old) ⊎ (ReadsLines words × (job : LineJob) × Asked words (Some files) watchers job) → new ≡ old
-untouched known words files watchers written ended old new before (inl same) = same
-untouched known words files watchers written ended old new before (inr (reads, job, asked)) = absurd (before_or_job known words files job before asked)
+    {S : Type 0} (known : KnownOfTexts) (words : List (List ℕ)) (told : Option (List ℕ → Option (List ℕ)))
+    (watchers : List Watched) (old new : S) → ComesToNoLine words told
+    → (new ≡ old) ⊎ (ReadsLines words × ((files : Option (List ℕ → Option (List ℕ))) → GoesByFiles words told files
+    → (job : LineJob) × Asked words files watchers job)) → new ≡ old
+untouched known words told watchers old new none (inl same) = same
+untouched known words told watchers old new (files, written, ended, by, before) (inr (reads, comes)) =
+    let job = comes (Some files) by in absurd (before_or_job known words files job.0 before job.1)
 
 -- ---- a file that is told as not held
 

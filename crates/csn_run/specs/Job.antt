@@ -1,9 +1,10 @@
 -- What a job has done with the outside when it is over, before the answers that still wait are handed on.
 use Rattle.std.specs.Prelude.{◌≡◌, ℕ, ◌+◌, ◌<◌, ◌≤◌, ◌⊎◌, Bool, List, [], ◌∷◌, length, Option, Some, None, Result, Ok, Err, Vec}
 use Rattle.std.specs.declared.alloc.Global.{Global}
-use Rattle.csn_io.specs.Faults.{Keeps, Rose}
 use Rattle.csn_io.specs.ShelfFault.{BeginsFile, LacksFile}
-use Rattle.csn_io.specs.declared.shelf.ShelfFault.{ShelfFault}
+use Rattle.csn_io.specs.declared.shelf.Shelf.{Ghosts as Shelves}
+use Rattle.csn_io.specs.declared.sink.Sink.{Ghosts as Sinks}
+use Rattle.csn_io.specs.declared.source.Source.{Ghosts as Sources}
 use Rattle.csn_desc.specs.declared.reading.Reading.{Reading}
 use Rattle.csn_desc.specs.Nodes.{DescV}
 use Rattle.csn_grammar.specs.RulesV.{RulesV}
@@ -19,7 +20,7 @@ use Rattle.csn_run.specs.declared.verifying.TheConstants.{MOST_CERTIFICATE}
 use Rattle.csn_command.specs.Command.{IsCommand, IsCompat, IsVerify, NamesFile, NamesFiles, ReadsLines}
 use Rattle.csn_lines.specs.Ends.{end_by, end_of}
 use Rattle.csn_lines.specs.LineState.{closing}
-use Rattle.csn_run.specs.Outside.{LeftByFetch}
+use Rattle.csn_run.specs.Outside.{KeepsSink, KeepsSource, LeftByFetch, NamesNone, SinkFails}
 use Rattle.csn_lines.specs.Progress.{AnswersAll, Stops}
 use Rattle.csn_lines.specs.Jobs.{LineJob, Steps, beginning}
 use Rattle.csn_run.specs.Result.{AsksFor, ComesToFile, EndsBefore}
@@ -38,28 +39,26 @@ abbrev pub IsDescription : Option (List ℕ → Option (List ℕ)) → List ℕ 
 IsDescription = IsWhole MOST_DESCRIPTION
 
 -- a shelf that comes of one call, which gave all of the description in this file
-pub record GivesDescription {Shelf : Type 0} (gives : Shelf → List ℕ → ℕ → Result (Vec ℕ Global) ShelfFault → Shelf
-    → Type 0) (files : Option (List ℕ → Option (List ℕ))) (file text : List ℕ) (before after : Shelf) : Type 0 where
+pub record GivesDescription {B : Type 0} (shelves : Shelves B) (file text : List ℕ) (before after : B) : Type 0 where
   pub bytes : Vec ℕ Global
-  pub given : gives before file (MOST_DESCRIPTION + 1) (Ok bytes) after
+  pub given : shelves.fetch_gives before file (MOST_DESCRIPTION + 1) (Ok bytes) after
   pub bytes_are : bytes.items ≡ text
-  pub whole : IsDescription files file text
+  pub whole : IsDescription (shelves.files before) file text
 
 -- a shelf as a run of these words leaves it, which name a file. It asks for the first file that they name, and behind that
 -- at most for one more: for the second of `compat`, where the first gave a description that is no longer than one may be;
 -- or for the certificate of `verify`, where this besides gives the rule a description. Of each it asks for one byte more
 -- than it may have
-pub data FetchesInOrder {Shelf : Type 0} (words : List (List ℕ)) (gives : Shelf → List ℕ → ℕ → Result (Vec ℕ Global) ShelfFault
-    → Shelf → Type 0) (files : Option (List ℕ → Option (List ℕ))) (before after : Shelf) : Type 0 where
+pub data FetchesInOrder {B : Type 0} (shelves : Shelves B) (words : List (List ℕ)) (before after : B) : Type 0 where
   fetches_first : (file : List ℕ) (others : List (List ℕ)) → NamesFiles words (file ∷ others)
-      → LeftByFetch (gives before file (MOST_DESCRIPTION + 1)) after → FetchesInOrder words gives files before after
-  fetches_second : (file other name text : List ℕ) (reading : Reading) (between : Shelf) → IsCompat words file other name reading
-      → GivesDescription gives files file text before between
-      → LeftByFetch (gives between other (MOST_DESCRIPTION + 1)) after → FetchesInOrder words gives files before after
-  fetches_certificate : (file name certificate text : List ℕ) (reading : Reading) (rules : RulesV) (d : DescV) (between : Shelf)
-      → IsVerify words file name reading certificate → GivesDescription gives files file text before between
-      → HasRules text rules → IsResolved rules name reading d
-      → LeftByFetch (gives between certificate (MOST_CERTIFICATE + 1)) after → FetchesInOrder words gives files before after
+      → LeftByFetch shelves file MOST_DESCRIPTION before after → FetchesInOrder shelves words before after
+  fetches_second : (file other name text : List ℕ) (reading : Reading) (between : B) → IsCompat words file other name reading
+      → GivesDescription shelves file text before between → LeftByFetch shelves other MOST_DESCRIPTION between after
+      → FetchesInOrder shelves words before after
+  fetches_certificate : (file name certificate text : List ℕ) (reading : Reading) (rules : RulesV) (d : DescV) (between : B)
+      → IsVerify words file name reading certificate → GivesDescription shelves file text before between
+      → HasRules text rules → IsResolved rules name reading d → LeftByFetch shelves certificate MOST_CERTIFICATE between after
+      → FetchesInOrder shelves words before after
 
 -- the end of a run whose job was over so, where all that waited was handed on and flushed
 abbrev pub end_with : Result Ended Fault → Ended
@@ -103,23 +102,20 @@ pub data JobEnds (words : List (List ℕ)) (files : Option (List ℕ → Option 
 
 -- what a job does with its source and its sink, where `comes` holds of one that comes to its lines: before that it leaves
 -- the source alone. That it could not read may be the fault of a file
-pub record LeavesStreams {Source : Type 0} (end : Result Ended Fault) (source source' : Source) (comes : Type 0)
-    (steady steady' : Type 0) (faults faults' : ℕ) (sink_steady sink_steady' : Type 0)
-    (sink_faults sink_faults' : ℕ) : Type 0 where
+pub record LeavesStreams {S K : Type 0} (sources : Sources S) (sinks : Sinks K) (end : Result Ended Fault) (source source' : S)
+    (sink sink' : K) (comes : Type 0) : Type 0 where
   pub touches : (source' ≡ source) ⊎ comes
   pub before_lines : (end ≡ Ok BadDescription) ⊎ (end ≡ Ok NotCertified) → source' ≡ source
-  pub write : end ≡ Err Write → Rose sink_faults sink_faults'
-  pub input : Keeps steady steady' faults faults' (end ≡ Err Read)
-  pub out : Keeps sink_steady sink_steady' sink_faults sink_faults' (end ≡ Err Write)
+  pub write : end ≡ Err Write → SinkFails sinks sink sink'
+  pub input : KeepsSource sources source source' (end ≡ Err Read)
+  pub out : KeepsSink sinks sink sink' (end ≡ Err Write)
 
 -- what the job of these words does with the shelf: it asks for the files that it comes to, of those that they name, and for
 -- no others, and where it comes to one that is told as not held, `lacking` holds
-pub record AsksFiles {Shelf : Type 0} (words : List (List ℕ)) (gives : Shelf → List ℕ → ℕ → Result (Vec ℕ Global)
-    ShelfFault → Shelf → Type 0) (files : Option (List ℕ → Option (List ℕ))) (shelf shelf' : Shelf)
-    (lacking : Type 0) : Type 0 where
-  pub no_file : ((file : List ℕ) → NamesFile words file → ⊥) → shelf' ≡ shelf
-  pub fetched : (file : List ℕ) → NamesFile words file → FetchesInOrder words gives files shelf shelf'
-  pub missing : (file : List ℕ) → ComesTo words files file → LacksFile files file → lacking
+pub record AsksFiles {B : Type 0} (shelves : Shelves B) (words : List (List ℕ)) (before after : B) (lacking : Type 0) : Type 0 where
+  pub no_file : NamesNone words → after ≡ before
+  pub fetched : (file : List ℕ) → NamesFile words file → FetchesInOrder shelves words before after
+  pub missing : (file : List ℕ) → ComesTo words (shelves.files before) file → LacksFile (shelves.files before) file → lacking
 
 -- how a run ends that comes to no job: the words are no row of the command table, or there was no memory to read them
 pub data EndsUnread (words : List (List ℕ)) (ended : Ended) : Type 0 where

@@ -14,11 +14,12 @@ use Rattle.csn_compat.specs.Takes.{Takes}
 use Rattle.csn_command.specs.declared.command.RuleReport.TheVariants.{Certificate}
 use Rattle.csn_plan.specs.declared.ended.Ended.{Ended}
 use Rattle.csn_lines.specs.LineState.{LineState}
-use Rattle.csn_command.specs.Command.{IsCommand, IsCompat, IsReport, IsVerify, NamesFile}
+use Rattle.csn_command.specs.Command.{IsCommand, IsCompat, IsReport, IsVerify}
 use Rattle.csn_plan.specs.Compiled.{IsCompiled, RuleOf}
 use Rattle.csn_run.specs.Told.{Verifies}
 use Rattle.csn_lines.specs.Jobs.{LineJob, Steps}
-use Rattle.csn_run.specs.Result.{AsksFor, Compiles, Result}
+use Rattle.csn_run.specs.Outside.{Passes}
+use Rattle.csn_run.specs.Result.{AsksFor, ComesToFile, Compiles, Result}
 
 -- each line has an answer, in each job over lines that words ask for and each state
 abbrev pub LinesHaveAnswers : Type 0
@@ -56,11 +57,11 @@ HasCertificate words files =
     (file name text : List ℕ) (reading : Reading) (rules : RulesV) (d : DescV) → IsReport Certificate words file name reading
     → files file ≡ Some text → IsCompiled text name reading rules d → (written : List ℕ) × IsCertificateText d written
 
--- the words of a command whose files are there have a result, where that is decided
+-- the words of a command have a result, where the files are there that a run comes to, and that is decided
 abbrev pub RunsHaveResults : Type 0
 RunsHaveResults =
     (words : List (List ℕ)) (files : List ℕ → Option (List ℕ)) (watchers : List Watched) (input : List ℕ)
-    → IsCommand words → ((file : List ℕ) → NamesFile words file → IsSome (files file)) → IsDecided words files
+    → IsCommand words → ((file : List ℕ) → ComesToFile words files file → IsSome (files file)) → IsDecided words files
     → HasCertificate words files → (written : List ℕ) × (ended : Ended) × Result words files watchers input written ended
 
 -- a run has one result
@@ -69,3 +70,13 @@ RunsHaveOneResult =
     (words : List (List ℕ)) (files : List ℕ → Option (List ℕ)) (watchers : List Watched) (input written other : List ℕ)
     (ended end : Ended) → Result words files watchers input written ended → Result words files watchers input other end
     → (written ≡ other) × (ended ≡ end)
+
+-- the pieces in which an input comes, and what of it is then left, do not matter: two runs of the same words over the same
+-- files, watchers and input that come to their ends have written the same, and ended the same
+abbrev pub PiecesDoNotMatter : Type 0
+PiecesDoNotMatter =
+    (words : List (List ℕ)) (files : List ℕ → Option (List ℕ)) (watchers : List Watched) (input : List ℕ)
+    (left left' taken taken' sank sank' : Option (List ℕ)) (ended end : Ended)
+    → (one : Passes (Some input) left taken taken' (λ given rest written. Result words files watchers (given ++ rest) written ended))
+    → (other : Passes (Some input) left' sank sank' (λ given rest written. Result words files watchers (given ++ rest) written end))
+    → (one.written ≡ other.written) × (ended ≡ end)

@@ -3,5 +3,6 @@ pub mod Known
 pub mod Laws
 pub mod Outside
 pub mod Planned
+pub mod Ran
 pub mod Result
 pub mod Told

@@ -182,22 +182,20 @@ pub record AnswersGiven (words : List (List ℕ)) (files : List ℕ → Option (
   pub asked : AsksFor words files watchers job
   pub stopped : StopsAfter (Steps job) (beginning job) given written
 
--- a run of which a fault stopped the reading: nothing of the input was read and nothing is written, or the
--- source had given some bytes, and `left` is what it has left
+-- a run of which a fault stopped the reading: nothing of the input was read and nothing is written, or the source had given
+-- some bytes
 pub data StopsReading (words : List (List ℕ)) (files : List ℕ → Option (List ℕ)) (watchers : List Watched)
-    (input : List ℕ) (left : Option (List ℕ)) (written : List ℕ) : Type 0 where
-  before_reading : left ≡ Some input → written ≡ [] → StopsReading words files watchers input left written
-  while_reading : (given rest : List ℕ) → input ≡ given ++ rest → left ≡ Some rest
-      → AnswersGiven words files watchers given written → StopsReading words files watchers input left written
+    (given written : List ℕ) : Type 0 where
+  before_reading : given ≡ [] → written ≡ [] → StopsReading words files watchers given written
+  while_reading : AnswersGiven words files watchers given written → StopsReading words files watchers given written
 
 -- a run that keeps no answer back, however it ended: nothing of the input was read, or what is written begins with the
 -- answers to the lines that had ended before the last piece of what the source gave
 pub data AnswersPromptly (words : List (List ℕ)) (files : List ℕ → Option (List ℕ)) (watchers : List Watched)
-    (input : List ℕ) (left : Option (List ℕ)) (written : List ℕ) : Type 0 where
-  nothing_read : left ≡ Some input → AnswersPromptly words files watchers input left written
-  some_read : (given rest : List ℕ) (job : LineJob) → input ≡ given ++ rest → left ≡ Some rest
-      → AsksFor words files watchers job → KeepsUp (Steps job) (beginning job) given written
-      → AnswersPromptly words files watchers input left written
+    (given written : List ℕ) : Type 0 where
+  nothing_read : given ≡ [] → AnswersPromptly words files watchers given written
+  some_read : (job : LineJob) → AsksFor words files watchers job → KeepsUp (Steps job) (beginning job) given written
+      → AnswersPromptly words files watchers given written
 
 -- a run of the words goes by this rule: it compiles it, or it is the rule of `verify`
 pub data GoesBy (words : List (List ℕ)) (files : List ℕ → Option (List ℕ)) (rule : RuleOf) : Type 0 where

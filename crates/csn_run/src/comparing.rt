@@ -1,14 +1,14 @@
 //! Whether a new description takes the blocks of an old one.
 
 ghost use Rattle.std.specs.Prelude.{◌≡◌, ◌≢◌, ◌⊎◌, ◌≤◌, ◌++◌, [], List, ℕ, Err, IfOk, IfErr, Option, length};
-ghost use Rattle.csn_io.specs.Faults.{Keeps};
 ghost use Rattle.csn_io.specs.ShelfFault.{LacksFile};
 ghost use Rattle.csn_replay.specs.Watched.{Watched};
 ghost use Rattle.csn_plan.specs.declared.compiling.TheConstants.{MOST_DESCRIPTION};
 ghost use Rattle.csn_command.specs.Command.{IsRowOf};
 ghost use Rattle.csn_run.specs.Told.{Compares};
 ghost use Rattle.csn_run.specs.Job.{ComesTo, FetchesInOrder, IsDescription, JobEnds};
-ghost use Rattle.csn_run.specs.Outside.{CannotRead};
+ghost use Rattle.csn_run.specs.Ran.{FileFails};
+ghost use Rattle.csn_run.specs.Outside.{CannotRead, KeepsShelf};
 ghost use Rattle.csn_run.specs.Planned.{ComparesTexts, IsLongPair};
 
 use crate::planned::{Unplanned, description, end_line, refuse};
@@ -32,17 +32,17 @@ fn texts_of<B: Shelf>(alloc: Global, pair: PairWords<'_>, shelf: &mut B) -> Resu
     ensures before { IfOk result (λ texts. IsDescription (B.files shelf.old) pair.entry.before.now texts.before.items) }
     ensures after { IfOk result (λ texts. IsDescription (B.files shelf.old) pair.entry.after.now texts.after.items) }
     ensures read { result ≡ Err Fault.Read
-        → CannotRead (B.files shelf.old) (B.faults shelf.old) (B.faults shelf.new) (B.last_fault shelf.new) pair.entry.before.now
+        → CannotRead B.Shelf shelf.old shelf.new pair.entry.before.now
         ⊎ (text : List ℕ) × IsDescription (B.files shelf.old) pair.entry.before.now text
-        × CannotRead (B.files shelf.old) (B.faults shelf.old) (B.faults shelf.new) (B.last_fault shelf.new) pair.entry.after.now }
+        × CannotRead B.Shelf shelf.old shelf.new pair.entry.after.now }
     ensures too_long { result ≡ Err Fault.TooLong → IsLongPair (B.files shelf.old) pair.entry }
     ensures not_write { result ≢ Err Fault.Write }
     ensures fetched { (words : List (List ℕ)) → IsRowOf words (Command.Compat pair.entry)
-        → FetchesInOrder words B.fetch_gives (B.files shelf.old) shelf.old shelf.new }
+        → FetchesInOrder B.Shelf words shelf.old shelf.new }
     ensures missing { LacksFile (B.files shelf.old) pair.entry.before.now → (result ≡ Err Fault.Read) ⊎ (result ≡ Err Fault.Memory) }
     ensures missing_after { (text : List ℕ) → IsDescription (B.files shelf.old) pair.entry.before.now text
         → LacksFile (B.files shelf.old) pair.entry.after.now → (result ≡ Err Fault.Read) ⊎ (result ≡ Err Fault.Memory) }
-    ensures shelf { Keeps (B.steady shelf.old) (B.steady shelf.new) (B.faults shelf.old) (B.faults shelf.new) (result ≡ Err Fault.Read) }
+    ensures shelf { KeepsShelf B.Shelf shelf.old shelf.new (result ≡ Err Fault.Read) }
 {
     let before = match description(alloc, shelf, pair.before) {
         Ok(text) => text,
@@ -105,15 +105,14 @@ pub fn compare_files<B: Shelf>(
     ensures ends { (words : List (List ℕ)) → IsRowOf words (Command.Compat pair.entry) → (watchers : List Watched) (left taken : Option (List ℕ))
         → JobEnds words (B.files shelf.old) watchers left left taken taken pending.new.items result }
     ensures read { result ≡ Err Fault.Read → (words : List (List ℕ)) → IsRowOf words (Command.Compat pair.entry)
-        → (file : List ℕ) × ComesTo words (B.files shelf.old) file
-        × CannotRead (B.files shelf.old) (B.faults shelf.old) (B.faults shelf.new) (B.last_fault shelf.new) file }
+        → FileFails B.Shelf words shelf.old shelf.new }
     ensures not_write { result ≢ Err Fault.Write }
     ensures missing { (words : List (List ℕ)) (file : List ℕ) → IsRowOf words (Command.Compat pair.entry)
         → ComesTo words (B.files shelf.old) file → LacksFile (B.files shelf.old) file
         → ((result ≡ Err Fault.Read) ⊎ (result ≡ Err Fault.Memory)) × (pending.new.items ≡ []) }
     ensures fetched { (words : List (List ℕ)) → IsRowOf words (Command.Compat pair.entry)
-        → FetchesInOrder words B.fetch_gives (B.files shelf.old) shelf.old shelf.new }
-    ensures shelf { Keeps (B.steady shelf.old) (B.steady shelf.new) (B.faults shelf.old) (B.faults shelf.new) (result ≡ Err Fault.Read) }
+        → FetchesInOrder B.Shelf words shelf.old shelf.new }
+    ensures shelf { KeepsShelf B.Shelf shelf.old shelf.new (result ≡ Err Fault.Read) }
 {
     match texts_of(alloc, pair, shelf) {
         Ok(texts) => compare_texts(alloc, pair, &texts, pending),

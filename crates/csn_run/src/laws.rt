@@ -1,7 +1,7 @@
 //! Laws over the definitions, each the contract of a function that does nothing.
 
 ghost use Rattle.csn_run.specs.Known.{Known};
-ghost use Rattle.csn_run.specs.Laws.{LinesHaveAnswers, LinesHaveOneAnswer, RunsHaveResults, RunsHaveOneResult};
+ghost use Rattle.csn_run.specs.Laws.{LinesHaveAnswers, LinesHaveOneAnswer, PiecesDoNotMatter, RunsHaveResults, RunsHaveOneResult};
 
 pub use csn_lines::laws::forms_show_one_tree;
 
@@ -33,10 +33,11 @@ pub fn lines_have_one_answer()
     csn_lines::laws::jobs_have_one_answer();
 }
 
-/// The words, the files and the whole input settle what a run writes and how it ends.
+/// The words, the files and the whole input settle what a run writes and how it ends, in whatever pieces the input comes.
 pub fn runs_have_one_result()
     ensures some_result { RunsHaveResults }
     ensures one_result { RunsHaveOneResult }
+    ensures pieces { PiecesDoNotMatter }
 {
     known();
     lines_have_one_answer();

@@ -4,6 +4,7 @@
 mod comparing;
 pub mod laws;
 mod memory;
+mod outside;
 mod planned;
 mod reporting;
 mod soaking;
@@ -12,4 +13,5 @@ mod verifying;
 
 pub use csn_plan::Ended;
 pub use memory::{Ran, run_in_memory, run_watched};
+pub use outside::Outside;
 pub use top::run;

@@ -7,6 +7,7 @@ ghost use Rattle.csn_io.specs.Files.{file_of};
 ghost use Rattle.csn_io.specs.ShelfFault.{LacksFile};
 ghost use Rattle.csn_run.specs.Result.{BeginsResult, ComesToFile, IsFinished, Result};
 
+use crate::outside::Outside;
 use crate::top::run;
 use csn_io::{MemShelf, MemSink, MemSource};
 use csn_plan::Ended;
@@ -40,11 +41,16 @@ pub fn run_watched(
     ensures read_fault { IfOk result (λ ran. ran.ended ≡ Ended.ReadFault
         → (name : List ℕ) × ComesToFile (map string_bytes words.now) (file_of files) name × LacksFile (Some (file_of files)) name) }
 {
-    let mut shelf = MemShelf::new(files, Vec::new(alloc));
-    let mut source = MemSource::new(input, 4096, Vec::new(alloc));
-    let mut sink = MemSink::new(alloc, 4096, Vec::new(alloc));
-    let ended = run(alloc, words, &mut shelf, &mut source, &mut sink, watchers);
-    let text = Vec::from_slice(alloc, sink.taken())?;
+    let shelf = MemShelf::new(files, Vec::new(alloc));
+    let source = MemSource::new(input, 4096, Vec::new(alloc));
+    let sink = MemSink::new(alloc, 4096, Vec::new(alloc));
+    let mut outside = Outside {
+        shelf,
+        source,
+        sink,
+    };
+    let ended = run(alloc, words, &mut outside, watchers);
+    let text = Vec::from_slice(alloc, outside.sink.taken())?;
     Ok(Ran { ended, text })
 }
 

@@ -1,13 +1,12 @@
 //! From the words that name a rule to its plan, or to the line that says why there is none.
 
 ghost use Rattle.std.specs.Prelude.{◌≡◌, ◌≢◌, ◌⊎◌, ◌+◌, ◌<◌, ◌++◌, ◌∷◌, [], List, ℕ, Ok, Err, IfOk, IfErr, length};
-ghost use Rattle.csn_io.specs.Faults.{Keeps};
 ghost use Rattle.csn_io.specs.ShelfFault.{BeginsFile, LacksFile};
 ghost use Rattle.csn_lines.specs.declared.lines.TheConstants.{LINE_FEED};
 ghost use Rattle.csn_plan.specs.declared.compiling.TheConstants.{MOST_DESCRIPTION};
 ghost use Rattle.csn_run.specs.declared.planned.Unplanned.TheVariants.{File, Text};
 ghost use Rattle.csn_run.specs.Job.{GivesDescription, IsDescription, IsLonger, IsWhole};
-ghost use Rattle.csn_run.specs.Outside.{CannotRead, LeftByFetch};
+ghost use Rattle.csn_run.specs.Outside.{CannotRead, KeepsShelf, LeftByFetch};
 ghost use Rattle.csn_run.specs.Planned.{IsPlanned, IsWhy, Refuses};
 
 use csn_certify::{CertifyFault, Plan};
@@ -52,14 +51,14 @@ pub fn whole_file<B: Shelf>(
     requires { most < 4294967295 }
     ensures whole { IfOk result (λ text. IsWhole most (B.files shelf.old) file.now text.items) }
     ensures read { result ≡ Err Fault.Read
-        → CannotRead (B.files shelf.old) (B.faults shelf.old) (B.faults shelf.new) (B.last_fault shelf.new) file.now }
+        → CannotRead B.Shelf shelf.old shelf.new file.now }
     ensures too_long { result ≡ Err Fault.TooLong → IsLonger most (B.files shelf.old) file.now }
     ensures not_write { result ≢ Err Fault.Write }
     ensures missing { LacksFile (B.files shelf.old) file.now → (result ≡ Err Fault.Read) ⊎ (result ≡ Err Fault.Memory) }
-    ensures fetched { LeftByFetch (B.fetch_gives shelf.old file.now (most + 1)) shelf.new }
+    ensures fetched { LeftByFetch B.Shelf file.now most shelf.old shelf.new }
     ensures given { IfOk result (λ text. B.fetch_gives shelf.old file.now (most + 1) (Ok text) shelf.new) }
     ensures files { B.files shelf.new ≡ B.files shelf.old }
-    ensures shelf { Keeps (B.steady shelf.old) (B.steady shelf.new) (B.faults shelf.old) (B.faults shelf.new) (result ≡ Err Fault.Read) }
+    ensures shelf { KeepsShelf B.Shelf shelf.old shelf.new (result ≡ Err Fault.Read) }
 {
     match shelf.fetch(alloc, file, most + 1) {
         Ok(text) if text.len() <= most as usize => Ok(text),
@@ -74,15 +73,15 @@ pub fn whole_file<B: Shelf>(
 pub fn description<B: Shelf>(alloc: Global, shelf: &mut B, file: &str) -> Result<Vec<u8>, Fault>
     ensures whole { IfOk result (λ text. IsDescription (B.files shelf.old) file.now text.items) }
     ensures read { result ≡ Err Fault.Read
-        → CannotRead (B.files shelf.old) (B.faults shelf.old) (B.faults shelf.new) (B.last_fault shelf.new) file.now }
+        → CannotRead B.Shelf shelf.old shelf.new file.now }
     ensures too_long { result ≡ Err Fault.TooLong
         → (front : List ℕ) × BeginsFile (B.files shelf.old) file.now (MOST_DESCRIPTION + 1) front × (MOST_DESCRIPTION < length front) }
     ensures not_write { result ≢ Err Fault.Write }
     ensures missing { LacksFile (B.files shelf.old) file.now → (result ≡ Err Fault.Read) ⊎ (result ≡ Err Fault.Memory) }
-    ensures fetched { LeftByFetch (B.fetch_gives shelf.old file.now (MOST_DESCRIPTION + 1)) shelf.new }
-    ensures given { IfOk result (λ text. GivesDescription B.fetch_gives (B.files shelf.old) file.now text.items shelf.old shelf.new) }
+    ensures fetched { LeftByFetch B.Shelf file.now MOST_DESCRIPTION shelf.old shelf.new }
+    ensures given { IfOk result (λ text. GivesDescription B.Shelf file.now text.items shelf.old shelf.new) }
     ensures files { B.files shelf.new ≡ B.files shelf.old }
-    ensures shelf { Keeps (B.steady shelf.old) (B.steady shelf.new) (B.faults shelf.old) (B.faults shelf.new) (result ≡ Err Fault.Read) }
+    ensures shelf { KeepsShelf B.Shelf shelf.old shelf.new (result ≡ Err Fault.Read) }
 {
     whole_file(alloc, shelf, file, MOST_DESCRIPTION)
 }
@@ -96,11 +95,11 @@ pub fn plan_of<B: Shelf>(
     ensures plan { IfOk result (IsPlanned (B.files shelf.old) rule.entry) }
     ensures none { IfErr result (IsWhy (B.files shelf.old) rule.entry) }
     ensures read { result ≡ Err (Unplanned.File Fault.Read)
-        → CannotRead (B.files shelf.old) (B.faults shelf.old) (B.faults shelf.new) (B.last_fault shelf.new) rule.entry.file.now }
+        → CannotRead B.Shelf shelf.old shelf.new rule.entry.file.now }
     ensures missing { LacksFile (B.files shelf.old) rule.entry.file.now
         → (result ≡ Err (Unplanned.File Fault.Read)) ⊎ (result ≡ Err (Unplanned.File Fault.Memory)) }
-    ensures fetched { LeftByFetch (B.fetch_gives shelf.old rule.entry.file.now (MOST_DESCRIPTION + 1)) shelf.new }
-    ensures shelf { Keeps (B.steady shelf.old) (B.steady shelf.new) (B.faults shelf.old) (B.faults shelf.new) (result ≡ Err (Unplanned.File Fault.Read)) }
+    ensures fetched { LeftByFetch B.Shelf rule.entry.file.now MOST_DESCRIPTION shelf.old shelf.new }
+    ensures shelf { KeepsShelf B.Shelf shelf.old shelf.new (result ≡ Err (Unplanned.File Fault.Read)) }
 {
     let text = description(alloc, shelf, rule.file)?;
     Ok(plan_text(alloc, &text, rule.name.as_bytes(), rule.reading)?)
@@ -115,11 +114,11 @@ pub fn text_plan_of<B: Shelf>(
     ensures plan { IfOk result (IsPlanned (B.files shelf.old) rule.entry) }
     ensures none { IfErr result (IsWhy (B.files shelf.old) rule.entry) }
     ensures read { result ≡ Err (Unplanned.File Fault.Read)
-        → CannotRead (B.files shelf.old) (B.faults shelf.old) (B.faults shelf.new) (B.last_fault shelf.new) rule.entry.file.now }
+        → CannotRead B.Shelf shelf.old shelf.new rule.entry.file.now }
     ensures missing { LacksFile (B.files shelf.old) rule.entry.file.now
         → (result ≡ Err (Unplanned.File Fault.Read)) ⊎ (result ≡ Err (Unplanned.File Fault.Memory)) }
-    ensures fetched { LeftByFetch (B.fetch_gives shelf.old rule.entry.file.now (MOST_DESCRIPTION + 1)) shelf.new }
-    ensures shelf { Keeps (B.steady shelf.old) (B.steady shelf.new) (B.faults shelf.old) (B.faults shelf.new) (result ≡ Err (Unplanned.File Fault.Read)) }
+    ensures fetched { LeftByFetch B.Shelf rule.entry.file.now MOST_DESCRIPTION shelf.old shelf.new }
+    ensures shelf { KeepsShelf B.Shelf shelf.old shelf.new (result ≡ Err (Unplanned.File Fault.Read)) }
 {
     let plan = plan_of(alloc, shelf, rule)?;
     match TextPlan::new(alloc, plan) {

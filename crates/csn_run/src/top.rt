@@ -1,26 +1,26 @@
-ghost use Rattle.std.specs.Prelude.{◌≡◌, ◌≢◌, ◌↔◌, ◌⊎◌, ◌+◌, ◌<◌, ◌≤◌, ◌++◌, [], List, ℕ, Option, Some, length, map, vec_len, Err, Ok, IfOk, IfErr, OnOk, ◌∷◌};
-ghost use Rattle.std.specs.String.{string_bytes};
-ghost use Rattle.csn_io.specs.Faults.{Keeps, Rose};
+ghost use Rattle.std.specs.Prelude.{◌≡◌, ◌≢◌, ◌↔◌, ◌⊎◌, ◌++◌, [], List, ℕ, Option, map, Err, IfOk, IfErr, OnOk};
 ghost use Rattle.csn_io.specs.Got.{NothingLeft};
-ghost use Rattle.csn_io.specs.Put.{Appended, FlushedAll, LeftByFlush};
+ghost use Rattle.csn_io.specs.Put.{Appended};
 ghost use Rattle.csn_io.specs.ShelfFault.{LacksFile};
 ghost use Rattle.csn_plan.specs.declared.compiling.TheConstants.{MOST_DESCRIPTION};
-ghost use Rattle.csn_lines.specs.declared.lines.TheConstants.{LINE_FEED, MOST_INPUT};
 ghost use Rattle.csn_replay.specs.Watched.{Watched};
-ghost use Rattle.csn_command.specs.Command.{IsCommand, IsReplay, IsRowOf, IsSegments, NamesFile, ReadsLines};
+ghost use Rattle.csn_command.specs.Command.{IsCommand, IsReplay, IsRowOf, IsSegments, ReadsLines};
 ghost use Rattle.csn_lines.specs.Ends.{BlamesStreams, end_of};
 ghost use Rattle.csn_lines.specs.Progress.{AnswersAll, Stops};
 ghost use Rattle.csn_lines.specs.Reading.{IsReady};
 ghost use Rattle.csn_lines.specs.LineState.{closing_of, nothing_kept};
 ghost use Rattle.csn_lines.specs.OutLine.{Works, by_plan};
-ghost use Rattle.csn_run.specs.Outside.{CannotRead, LeftByFetch};
-ghost use Rattle.csn_run.specs.Job.{Asked, AsksFiles, ComesTo, EndsUnread, FetchesInOrder, JobEnds, LeavesStreams, end_with};
-ghost use Rattle.csn_run.specs.Result.{AnswersPromptly, BeginsResult, EndsBefore, IsFinished, IsStopped};
-ghost use Rattle.csn_run.specs.Result.{OldBlocksStay, Result, RulesHaveOneTree, StopsReading};
 ghost use Rattle.csn_lines.specs.Jobs.{LineJob};
+ghost use Rattle.csn_run.specs.Outside.{CannotRead, GoesByFiles, HasTakenFew, IsAskedToFlush, IsFlushed, KeepsShelf, KeepsSink};
+ghost use Rattle.csn_run.specs.Outside.{LeftByFetch, NamesNone, NamesSome, OverFiles, SinkFails, SourceFails};
+ghost use Rattle.csn_run.specs.Job.{Asked, AsksFiles, EndsUnread, FetchesInOrder, JobEnds, LeavesStreams, end_with};
+ghost use Rattle.csn_run.specs.Ran.{ComesToNoLine, Fails, FileFails, LacksOne, Ran, TellsFaults};
+ghost use Rattle.csn_run.specs.Ran.{WritesFront, WritesPromptly, WritesResult, WritesToFeed, words_of};
+ghost use Rattle.csn_run.specs.Result.{IsFinished, IsStopped, OldBlocksStay, RulesHaveOneTree};
 
 use crate::comparing::compare_files;
 use crate::laws::{known, lines_have_one_answer};
+use crate::outside::Outside;
 use crate::planned::{Unplanned, plan_of, refuse, text_plan_of};
 use crate::reporting::report_plan;
 use crate::soaking::soak_entry;
@@ -50,12 +50,12 @@ fn report<B: Shelf>(
     ensures ends { (words : List (List ℕ)) → IsRowOf words (Command.Report report rule.entry) → (watchers : List Watched) (left taken : Option (List ℕ))
         → JobEnds words (B.files shelf.old) watchers left left taken taken pending.new.items result }
     ensures read { result ≡ Err Fault.Read
-        → CannotRead (B.files shelf.old) (B.faults shelf.old) (B.faults shelf.new) (B.last_fault shelf.new) rule.entry.file.now }
+        → CannotRead B.Shelf shelf.old shelf.new rule.entry.file.now }
     ensures not_write { result ≢ Err Fault.Write }
     ensures missing { LacksFile (B.files shelf.old) rule.entry.file.now → ((result ≡ Err Fault.Read) ⊎ (result ≡ Err Fault.Memory))
         × (pending.new.items ≡ []) }
-    ensures fetched { LeftByFetch (B.fetch_gives shelf.old rule.entry.file.now (MOST_DESCRIPTION + 1)) shelf.new }
-    ensures shelf { Keeps (B.steady shelf.old) (B.steady shelf.new) (B.faults shelf.old) (B.faults shelf.new) (result ≡ Err Fault.Read) }
+    ensures fetched { LeftByFetch B.Shelf rule.entry.file.now MOST_DESCRIPTION shelf.old shelf.new }
+    ensures shelf { KeepsShelf B.Shelf shelf.old shelf.new (result ≡ Err Fault.Read) }
 {
     let plan = match plan_of(alloc, shelf, rule) {
         Ok(plan) => plan,
@@ -111,17 +111,15 @@ fn answer_by_rule<B: Shelf, S: Source, K: Sink>(
     ensures ends { (words : List (List ℕ)) (watchers : List Watched) → IsRowOf words (Command.Answer command rule.entry)
         → JobEnds words (B.files shelf.old) watchers (S.left input.old) (S.left input.new)
         (K.taken out.old) (K.taken out.new) lines.new.pending.items result }
-    ensures read { result ≡ Err Fault.Read → Rose (S.faults input.old) (S.faults input.new)
-        ⊎ CannotRead (B.files shelf.old) (B.faults shelf.old) (B.faults shelf.new) (B.last_fault shelf.new) rule.entry.file.now }
+    ensures read { result ≡ Err Fault.Read → SourceFails S.Source input.old input.new
+        ⊎ CannotRead B.Shelf shelf.old shelf.new rule.entry.file.now }
     ensures missing { LacksFile (B.files shelf.old) rule.entry.file.now → ((result ≡ Err Fault.Read) ⊎ (result ≡ Err Fault.Memory))
         × (input.new ≡ input.old) × (out.new ≡ out.old) × (lines.new.pending.items ≡ []) }
-    ensures fetched { LeftByFetch (B.fetch_gives shelf.old rule.entry.file.now (MOST_DESCRIPTION + 1)) shelf.new }
-    ensures shelf { Keeps (B.steady shelf.old) (B.steady shelf.new) (B.faults shelf.old) (B.faults shelf.new) (result ≡ Err Fault.Read) }
-    ensures streams { LeavesStreams result input.old input.new
+    ensures fetched { LeftByFetch B.Shelf rule.entry.file.now MOST_DESCRIPTION shelf.old shelf.new }
+    ensures shelf { KeepsShelf B.Shelf shelf.old shelf.new (result ≡ Err Fault.Read) }
+    ensures streams { LeavesStreams S.Source K.Sink result input.old input.new out.old out.new
         ((words : List (List ℕ)) (watchers : List Watched) → IsRowOf words (Command.Answer command rule.entry)
-        → (job : LineJob) × Asked words (B.files shelf.old) watchers job)
-        (S.steady input.old) (S.steady input.new) (S.faults input.old) (S.faults input.new)
-        (K.steady out.old) (K.steady out.new) (K.faults out.old) (K.faults out.new) }
+        → (job : LineJob) × Asked words (B.files shelf.old) watchers job) }
 {
     let plan = match text_plan_of(alloc, shelf, rule) {
         Ok(plan) => plan,
@@ -143,12 +141,10 @@ fn answer_segments<S: Source, K: Sink>(
     ensures ends { (words : List (List ℕ)) (files : Option (List ℕ → Option (List ℕ))) (watchers : List Watched)
         → IsSegments words reading → JobEnds words files watchers (S.left input.old) (S.left input.new)
         (K.taken out.old) (K.taken out.new) lines.new.pending.items result }
-    ensures read { result ≡ Err Fault.Read → Rose (S.faults input.old) (S.faults input.new) }
-    ensures streams { LeavesStreams result input.old input.new
+    ensures read { result ≡ Err Fault.Read → SourceFails S.Source input.old input.new }
+    ensures streams { LeavesStreams S.Source K.Sink result input.old input.new out.old out.new
         ((words : List (List ℕ)) (files : Option (List ℕ → Option (List ℕ))) (watchers : List Watched)
-        → IsSegments words reading → (job : LineJob) × Asked words files watchers job)
-        (S.steady input.old) (S.steady input.new) (S.faults input.old) (S.faults input.new)
-        (K.steady out.old) (K.steady out.new) (K.faults out.old) (K.faults out.new) }
+        → IsSegments words reading → (job : LineJob) × Asked words files watchers job) }
 {
     let plan = match plan_of_entry(alloc, Entry::Downlink, reading) {
         Ok(plan) => plan,
@@ -176,12 +172,10 @@ fn answer_replay<S: Source, K: Sink>(
     ensures ends { (words : List (List ℕ)) (files : Option (List ℕ → Option (List ℕ))) → IsReplay words reading
         → JobEnds words files (map (λ b. watched b) watchers.items) (S.left input.old) (S.left input.new)
         (K.taken out.old) (K.taken out.new) lines.new.pending.items result }
-    ensures read { result ≡ Err Fault.Read → Rose (S.faults input.old) (S.faults input.new) }
-    ensures streams { LeavesStreams result input.old input.new
+    ensures read { result ≡ Err Fault.Read → SourceFails S.Source input.old input.new }
+    ensures streams { LeavesStreams S.Source K.Sink result input.old input.new out.old out.new
         ((words : List (List ℕ)) (files : Option (List ℕ → Option (List ℕ))) → IsReplay words reading
-        → (job : LineJob) × Asked words files (map (λ b. watched b) watchers.items) job)
-        (S.steady input.old) (S.steady input.new) (S.faults input.old) (S.faults input.new)
-        (K.steady out.old) (K.steady out.new) (K.faults out.old) (K.faults out.new) }
+        → (job : LineJob) × Asked words files (map (λ b. watched b) watchers.items) job) }
 {
     let plans = match plans_of_entries(alloc, reading) {
         Ok(plans) => plans,
@@ -206,20 +200,19 @@ fn perform<B: Shelf, S: Source, K: Sink>(
     requires ready { IsReady lines.old }
     requires unfailed { K.faults out.old ≡ 0 }
     requires row { (words : List (List ℕ)) × IsRowOf words command }
-    ensures ends { (words : List (List ℕ)) → IsRowOf words command.entry
-        → JobEnds words (B.files shelf.old) (map (λ b. watched b) watchers.items) (S.left input.old) (S.left input.new)
-        (K.taken out.old) (K.taken out.new) lines.new.pending.items result }
+    ensures ends { (words : List (List ℕ)) → IsRowOf words command.entry → (files : Option (List ℕ → Option (List ℕ)))
+        → GoesByFiles words (B.files shelf.old) files → JobEnds words files (map (λ b. watched b) watchers.items)
+        (S.left input.old) (S.left input.new) (K.taken out.old) (K.taken out.new) lines.new.pending.items result }
     ensures read { result ≡ Err Fault.Read → (words : List (List ℕ)) → IsRowOf words command.entry
-        → Rose (S.faults input.old) (S.faults input.new) ⊎ ((file : List ℕ) × ComesTo words (B.files shelf.old) file
-        × CannotRead (B.files shelf.old) (B.faults shelf.old) (B.faults shelf.new) (B.last_fault shelf.new) file) }
+        → SourceFails S.Source input.old input.new ⊎ FileFails B.Shelf words shelf.old shelf.new }
     ensures files { (words : List (List ℕ)) → IsRowOf words command.entry
-        → AsksFiles words B.fetch_gives (B.files shelf.old) shelf.old shelf.new (((result ≡ Err Fault.Read) ⊎ (result ≡ Err Fault.Memory))
+        → AsksFiles B.Shelf words shelf.old shelf.new (((result ≡ Err Fault.Read) ⊎ (result ≡ Err Fault.Memory))
         × (input.new ≡ input.old) × (out.new ≡ out.old) × (lines.new.pending.items ≡ [])) }
-    ensures shelf { Keeps (B.steady shelf.old) (B.steady shelf.new) (B.faults shelf.old) (B.faults shelf.new) (result ≡ Err Fault.Read) }
-    ensures streams { LeavesStreams result input.old input.new ((words : List (List ℕ)) → IsRowOf words command.entry
-        → ReadsLines words × (job : LineJob) × Asked words (B.files shelf.old) (map (λ b. watched b) watchers.items) job)
-        (S.steady input.old) (S.steady input.new) (S.faults input.old) (S.faults input.new)
-        (K.steady out.old) (K.steady out.new) (K.faults out.old) (K.faults out.new) }
+    ensures shelf { KeepsShelf B.Shelf shelf.old shelf.new (result ≡ Err Fault.Read) }
+    ensures streams { LeavesStreams S.Source K.Sink result input.old input.new out.old out.new
+        ((words : List (List ℕ)) → IsRowOf words command.entry
+        → ReadsLines words × ((files : Option (List ℕ → Option (List ℕ))) → GoesByFiles words (B.files shelf.old) files
+        → (job : LineJob) × Asked words files (map (λ b. watched b) watchers.items) job)) }
 {
     match command {
         Command::Report(what, rule) => report(alloc, what, rule, shelf, &mut lines.pending),
@@ -246,10 +239,10 @@ fn finish<K: Sink>(end: Result<Ended, Fault>, pending: &mut Vec<u8>, out: &mut K
     ensures end { result ≢ Ended.WriteFault → result ≢ Ended.NoMemory → result ≡ end_with end }
     ensures took { (front rest : List ℕ) × (pending.old.items ≡ front ++ rest) × Appended (K.taken out.old) (K.taken out.new) front
         × (result ≢ Ended.WriteFault → result ≢ Ended.NoMemory → rest ≡ []) }
-    ensures write { result ≡ Ended.WriteFault → (end_with end ≡ Ended.WriteFault) ⊎ Rose (K.faults out.old) (K.faults out.new) }
-    ensures flushed { result ≢ Ended.WriteFault → result ≢ Ended.NoMemory → FlushedAll (K.taken out.new) (K.flushed out.new) }
-    ensures flushes { result ≢ Ended.WriteFault → LeftByFlush K.flush_gives K.taken K.flushed out.new }
-    ensures out { Keeps (K.steady out.old) (K.steady out.new) (K.faults out.old) (K.faults out.new) (result ≡ Ended.WriteFault) }
+    ensures write { result ≡ Ended.WriteFault → (end_with end ≡ Ended.WriteFault) ⊎ SinkFails K.Sink out.old out.new }
+    ensures flushed { result ≢ Ended.WriteFault → result ≢ Ended.NoMemory → IsFlushed K.Sink out.new }
+    ensures flushes { result ≢ Ended.WriteFault → IsAskedToFlush K.Sink out.new }
+    ensures out { KeepsSink K.Sink out.old out.new (result ≡ Ended.WriteFault) }
 {
     if let Err(Fault::Write) = end {
         return Ended::WriteFault;
@@ -272,9 +265,9 @@ fn finish<K: Sink>(end: Result<Ended, Fault>, pending: &mut Vec<u8>, out: &mut K
 
 /// The words of a row of the command table as they are read, or the end of a run that has none.
 fn read_row<'a>(alloc: Global, words: &'a [String]) -> Result<Vec<&'a str>, Ended>
-    ensures row { OnOk result (IsCommand (map string_bytes words.now)) }
-    ensures words { IfOk result (λ read. map (λ word. word.now) read.items ≡ map string_bytes words.now) }
-    ensures unread { IfErr result (EndsUnread (map string_bytes words.now)) }
+    ensures row { OnOk result (IsCommand (words_of words.now)) }
+    ensures words { IfOk result (λ read. map (λ word. word.now) read.items ≡ words_of words.now) }
+    ensures unread { IfErr result (EndsUnread (words_of words.now)) }
 {
     // Words that are no row are told so also where there is no memory to read them.
     if command_of(words).is_none() {
@@ -293,8 +286,8 @@ fn end_unread<K: Sink>(end: Ended, out: &mut K) -> Ended
     ensures end { result ≡ end }
     ensures usage { end ≡ Ended.Usage → out.new ≡ out.old }
     ensures taken_stays { K.taken out.new ≡ K.taken out.old }
-    ensures flushes { end ≢ Ended.Usage → LeftByFlush K.flush_gives K.taken K.flushed out.new }
-    ensures out { Keeps (K.steady out.old) (K.steady out.new) (K.faults out.old) (K.faults out.new) (end ≢ Ended.Usage) }
+    ensures flushes { end ≢ Ended.Usage → IsAskedToFlush K.Sink out.new }
+    ensures out { KeepsSink K.Sink out.old out.new (end ≢ Ended.Usage) }
 {
     if let Ended::Usage = end {
         return end;
@@ -307,112 +300,78 @@ fn end_unread<K: Sink>(end: Ended, out: &mut K) -> Ended
 pub fn run<B: Shelf, S: Source, K: Sink>(
     alloc: Global,
     words: &[String],
-    shelf: &mut B,
-    input: &mut S,
-    out: &mut K,
+    outside: &mut Outside<B, S, K>,
     watchers: Vec<Box<dyn Watcher>>,
 ) -> Ended
     // A sink of which a call has failed is not asked again.
-    requires unfailed { K.faults out.old ≡ 0 }
-
-    // Usage comes where the words are no row of the command table, and then the outside is left alone.
-    ensures usage { (result ≡ Ended.Usage) ↔ (IsCommand (map string_bytes words.now) → ⊥) }
-    ensures row { result ≢ Ended.Usage → IsCommand (map string_bytes words.now) }
-    ensures usage_shelf { result ≡ Ended.Usage → shelf.new ≡ shelf.old }
-    ensures usage_input { result ≡ Ended.Usage → input.new ≡ input.old }
-    ensures usage_out { result ≡ Ended.Usage → out.new ≡ out.old }
-
+    requires unfailed { K.faults outside.old.sink ≡ 0 }
+    // The words are no row of the command table, and the outside is left alone; or the job is done, and its result is
+    // written; or a fault of one of the three ends it, or want of memory, and what is written begins the result.
+    ensures ran { Ran B.Shelf S.Source K.Sink (words_of words.now) (map (λ b. watched b) watchers.items) outside.old outside.new result }
+    ensures usage { (result ≡ Ended.Usage) ↔ (IsCommand (words_of words.now) → ⊥) }
+    ensures row { result ≢ Ended.Usage → IsCommand (words_of words.now) }
+    ensures alone { result ≡ Ended.Usage → outside.new ≡ outside.old }
     // What is written, and how a run ends, is the result for the files, the watchers, the whole input and the words.
-    ensures result { IsFinished result → (files : List ℕ → Option (List ℕ)) (whole before : List ℕ)
-        → B.files shelf.old ≡ Some files → S.left input.old ≡ Some whole → K.taken out.old ≡ Some before
-        → (written : List ℕ) × (K.taken out.new ≡ Some (before ++ written))
-        × Result (map string_bytes words.now) files (map (λ b. watched b) watchers.items) whole written result }
-
-    // However it ends, what is written begins the result. Nothing is written where the file is not there.
-    ensures begins { result ≢ Ended.Usage → (files : List ℕ → Option (List ℕ)) (whole before : List ℕ)
-        → B.files shelf.old ≡ Some files → S.left input.old ≡ Some whole → K.taken out.old ≡ Some before
-        → (written : List ℕ) × (K.taken out.new ≡ Some (before ++ written))
-        × BeginsResult (map string_bytes words.now) files (map (λ b. watched b) watchers.items) whole written }
-
-    // After a fault while it reads, just the lines are answered whose line feed came.
-    ensures reading { result ≡ Ended.ReadFault → (files : List ℕ → Option (List ℕ)) (whole before : List ℕ)
-        → B.files shelf.old ≡ Some files → S.left input.old ≡ Some whole → K.taken out.old ≡ Some before
-        → (written : List ℕ) × (K.taken out.new ≡ Some (before ++ written))
-        × StopsReading (map string_bytes words.now) files (map (λ b. watched b) watchers.items) whole (S.left input.new) written }
-
-    // No answer is kept back: those to the lines that had ended before the last bytes which the source gave, at most
-    // 4,096 of them, are written. So no more than these are read behind a fault of the sink.
-    ensures prompt { result ≢ Ended.Usage → (files : List ℕ → Option (List ℕ)) (whole before : List ℕ)
-        → B.files shelf.old ≡ Some files → S.left input.old ≡ Some whole → K.taken out.old ≡ Some before
-        → (written : List ℕ) × (K.taken out.new ≡ Some (before ++ written))
-        × AnswersPromptly (map string_bytes words.now) files (map (λ b. watched b) watchers.items) whole (S.left input.new) written }
-
-    // What is left of the input. Where a run comes to no line, the source and its count are left alone, also after a
-    // fault.
-    ensures input_read { (result ≡ Ended.Done) ⊎ (result ≡ Ended.SomeRefused) → ReadsLines (map string_bytes words.now)
-        → NothingLeft (S.left input.new) }
-    ensures before_lines { (result ≡ Ended.BadDescription) ⊎ (result ≡ Ended.NotCertified) → input.new ≡ input.old }
-    ensures no_lines { (ReadsLines (map string_bytes words.now) → ⊥) → input.new ≡ input.old }
-    ensures no_job { (files : List ℕ → Option (List ℕ)) (written : List ℕ) (ended : Ended) → B.files shelf.old ≡ Some files
-        → EndsBefore (map string_bytes words.now) files written ended → input.new ≡ input.old }
-    ensures bounded { (whole rest : List ℕ) → S.left input.old ≡ Some whole → S.left input.new ≡ Some rest
-        → length whole ≤ length rest + MOST_INPUT + 1 }
-
-    // A command that names no file leaves the shelf alone. Of one that names files, it is as one call for the first leaves
-    // it, and then perhaps one for the next, where the run comes to it: no other file is fetched, in no other order, no more
-    // often, and no more of it than one byte past its limit. Where there was no memory to read the words, none is.
-    ensures no_file { ((file : List ℕ) → NamesFile (map string_bytes words.now) file → ⊥) → shelf.new ≡ shelf.old }
-    ensures fetched { (file : List ℕ) → NamesFile (map string_bytes words.now) file
-        → FetchesInOrder (map string_bytes words.now) B.fetch_gives (B.files shelf.old) shelf.old shelf.new
-        ⊎ ((result ≡ Ended.NoMemory) × (shelf.new ≡ shelf.old)) }
-
-    // After these ends the rules that the words name give no bits, of any length, two trees.
-    ensures one_tree { (result ≡ Ended.Done) ⊎ (result ≡ Ended.SomeRefused) → (files : List ℕ → Option (List ℕ))
-        → B.files shelf.old ≡ Some files → RulesHaveOneTree (map string_bytes words.now) files }
-
-    // After `ok compat` each block of the old rule is one of the new rule.
-    ensures blocks_stay { result ≡ Ended.Done → (files : List ℕ → Option (List ℕ)) → B.files shelf.old ≡ Some files
-        → OldBlocksStay (map string_bytes words.now) files }
-
+    ensures result { IsFinished result → WritesResult B.Shelf S.Source K.Sink (words_of words.now)
+        (map (λ b. watched b) watchers.items) outside.old outside.new result }
+    ensures begins { result ≢ Ended.Usage → WritesFront B.Shelf S.Source K.Sink (words_of words.now)
+        (map (λ b. watched b) watchers.items) outside.old outside.new }
+    // After a fault while it reads, just the lines are answered whose line feed came. No answer is kept back: those to the
+    // lines that had ended before the last bytes came, at most 4,096 of them, are written.
+    ensures reading { result ≡ Ended.ReadFault → WritesToFeed B.Shelf S.Source K.Sink (words_of words.now)
+        (map (λ b. watched b) watchers.items) outside.old outside.new }
+    ensures prompt { result ≢ Ended.Usage → WritesPromptly B.Shelf S.Source K.Sink (words_of words.now)
+        (map (λ b. watched b) watchers.items) outside.old outside.new }
+    // What is left of the input. Where a run comes to no line, the source and its count are left alone, also after a fault.
+    ensures input_read { (result ≡ Ended.Done) ⊎ (result ≡ Ended.SomeRefused) → ReadsLines (words_of words.now)
+        → NothingLeft (S.left outside.new.source) }
+    ensures before_lines { (result ≡ Ended.BadDescription) ⊎ (result ≡ Ended.NotCertified) → outside.new.source ≡ outside.old.source }
+    ensures no_lines { (ReadsLines (words_of words.now) → ⊥) → outside.new.source ≡ outside.old.source }
+    ensures no_job { ComesToNoLine (words_of words.now) (B.files outside.old.shelf) → outside.new.source ≡ outside.old.source }
+    ensures bounded { HasTakenFew (S.left outside.old.source) (S.left outside.new.source) }
+    // The files that the words name are asked for in their order, once each and where the run comes to them, for one byte
+    // more than they may have, and no others. Where there was no memory to read the words, none is.
+    ensures no_file { NamesNone (words_of words.now) → outside.new.shelf ≡ outside.old.shelf }
+    ensures fetched { NamesSome (words_of words.now) → FetchesInOrder B.Shelf (words_of words.now)
+        outside.old.shelf outside.new.shelf ⊎ ((result ≡ Ended.NoMemory) × (outside.new.shelf ≡ outside.old.shelf)) }
+    // After these ends the rules that the words name give no bits, of any length, two trees; and after `ok compat` each
+    // block of the old rule is one of the new rule.
+    ensures one_tree { (result ≡ Ended.Done) ⊎ (result ≡ Ended.SomeRefused)
+        → OverFiles (words_of words.now) (B.files outside.old.shelf) (RulesHaveOneTree (words_of words.now)) }
+    ensures blocks_stay { result ≡ Ended.Done → OverFiles (words_of words.now) (B.files outside.old.shelf) (OldBlocksStay (words_of words.now)) }
     // A file that the run comes to, and that is told as not held, ends it at once.
-    ensures missing { (file : List ℕ) → ComesTo (map string_bytes words.now) (B.files shelf.old) file → LacksFile (B.files shelf.old) file
-        → (input.new ≡ input.old) × (K.taken out.new ≡ K.taken out.old)
-        × ((result ≡ Ended.ReadFault) ⊎ (result ≡ Ended.WriteFault) ⊎ (result ≡ Ended.NoMemory)) }
-
-    // With no fault the job is done, or there was no memory.
-    ensures complete { IsCommand (map string_bytes words.now) → (Rose (S.faults input.old) (S.faults input.new) → ⊥)
-        → (Rose (K.faults out.old) (K.faults out.new) → ⊥)
-        → ((file : List ℕ) → ComesTo (map string_bytes words.now) (B.files shelf.old) file
-        → CannotRead (B.files shelf.old) (B.faults shelf.old) (B.faults shelf.new) (B.last_fault shelf.new) file → ⊥)
+    ensures missing { LacksOne (words_of words.now) (B.files outside.old.shelf) → (outside.new.source ≡ outside.old.source)
+        × (K.taken outside.new.sink ≡ K.taken outside.old.sink) × IsStopped result }
+    // With no fault the job is done, or there was no memory. A fault comes only where the outside shows it.
+    ensures complete { IsCommand (words_of words.now) → (Fails B.Shelf S.Source K.Sink (words_of words.now) outside.old outside.new → ⊥)
         → IsFinished result ⊎ (result ≡ Ended.NoMemory) }
-
-    // A fault comes only where the outside shows it.
-    ensures read_fault { result ≡ Ended.ReadFault → Rose (S.faults input.old) (S.faults input.new)
-        ⊎ ((name : List ℕ) × ComesTo (map string_bytes words.now) (B.files shelf.old) name
-        × CannotRead (B.files shelf.old) (B.faults shelf.old) (B.faults shelf.new) (B.last_fault shelf.new) name) }
-    ensures write_fault { result ≡ Ended.WriteFault → Rose (K.faults out.old) (K.faults out.new) }
-
-    // All that the sink took is flushed. Where memory was wanting it is asked to flush it, but may have no memory either.
-    ensures flushed { result ≢ Ended.Usage → result ≢ Ended.WriteFault → result ≢ Ended.NoMemory
-        → FlushedAll (K.taken out.new) (K.flushed out.new) }
-    ensures flushes { result ≢ Ended.Usage → result ≢ Ended.WriteFault → LeftByFlush K.flush_gives K.taken K.flushed out.new }
-
-    // No fault is swallowed: a count rises only where the end tells of it; and an outside of which no call fails shows
-    // none.
-    ensures shelf { Keeps (B.steady shelf.old) (B.steady shelf.new) (B.faults shelf.old) (B.faults shelf.new) (IsStopped result) }
-    ensures input { Keeps (S.steady input.old) (S.steady input.new) (S.faults input.old) (S.faults input.new) (IsStopped result) }
-    ensures out { Keeps (K.steady out.old) (K.steady out.new) (K.faults out.old) (K.faults out.new) (IsStopped result) }
+    ensures read_fault { result ≡ Ended.ReadFault → SourceFails S.Source outside.old.source outside.new.source
+        ⊎ FileFails B.Shelf (words_of words.now) outside.old.shelf outside.new.shelf }
+    ensures write_fault { result ≡ Ended.WriteFault → SinkFails K.Sink outside.old.sink outside.new.sink }
+    // What the sink took is flushed. Where memory was wanting it is asked to flush it, but may have no memory either.
+    ensures flushed { result ≢ Ended.Usage → result ≢ Ended.WriteFault → result ≢ Ended.NoMemory → IsFlushed K.Sink outside.new.sink }
+    ensures flushes { result ≢ Ended.Usage → result ≢ Ended.WriteFault → IsAskedToFlush K.Sink outside.new.sink }
+    // No fault is swallowed: a count rises only where the end tells of it; and an outside of which no call fails shows none.
+    ensures faults { TellsFaults B.Shelf S.Source K.Sink outside.old outside.new (IsStopped result) }
 {
     known();
     lines_have_one_answer();
     let read = match read_row(alloc, words) {
         Ok(read) => read,
-        Err(end) => return end_unread(end, out),
+        Err(end) => return end_unread(end, &mut outside.sink),
     };
     let Some(command) = command_of(&read) else {
         unreachable!();
     };
     let mut lines = Lines::new(alloc);
-    let outcome = perform(alloc, command, shelf, input, out, &mut lines, watchers);
-    finish(outcome, &mut lines.pending, out)
+    let outcome = perform(
+        alloc,
+        command,
+        &mut outside.shelf,
+        &mut outside.source,
+        &mut outside.sink,
+        &mut lines,
+        watchers,
+    );
+    finish(outcome, &mut lines.pending, &mut outside.sink)
 }

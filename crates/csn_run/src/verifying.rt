@@ -6,7 +6,6 @@ ghost use Rattle.csn_desc.specs.Nodes.{DescV};
 ghost use Rattle.csn_grammar.specs.Place.{HasRules};
 ghost use Rattle.csn_grammar.specs.RulesV.{RulesV};
 ghost use Rattle.csn_resolve.specs.Resolved.{IsResolved};
-ghost use Rattle.csn_io.specs.Faults.{Keeps};
 ghost use Rattle.csn_io.specs.ShelfFault.{LacksFile};
 ghost use Rattle.csn_replay.specs.Watched.{Watched};
 ghost use Rattle.csn_plan.specs.declared.compiling.NoPlan.TheVariants.{Plan};
@@ -16,7 +15,8 @@ ghost use Rattle.csn_run.specs.declared.verifying.TheConstants.{MOST_CERTIFICATE
 ghost use Rattle.csn_command.specs.Command.{IsVerify};
 ghost use Rattle.csn_run.specs.Told.{Verifies};
 ghost use Rattle.csn_run.specs.Job.{ComesTo, FetchesInOrder, GivesDescription, JobEnds};
-ghost use Rattle.csn_run.specs.Outside.{CannotRead, LeftByFetch};
+ghost use Rattle.csn_run.specs.Ran.{FileFails};
+ghost use Rattle.csn_run.specs.Outside.{CannotRead, KeepsShelf, LeftByFetch};
 ghost use Rattle.csn_run.specs.Planned.{HasDescription, IsChecked, IsWhy, TellsChecked};
 
 use crate::laws::known;
@@ -40,15 +40,15 @@ fn described<B: Shelf>(alloc: Global, shelf: &mut B, rule: RuleWords<'_>) -> Res
     ensures none { IfErr result (IsWhy (B.files shelf.old) rule.entry) }
     ensures no_conflict { (fault : CertifyFault) → result ≢ Err (Unplanned.Text (Plan fault)) }
     ensures read { result ≡ Err (Unplanned.File Fault.Read)
-        → CannotRead (B.files shelf.old) (B.faults shelf.old) (B.faults shelf.new) (B.last_fault shelf.new) rule.entry.file.now }
+        → CannotRead B.Shelf shelf.old shelf.new rule.entry.file.now }
     ensures missing { LacksFile (B.files shelf.old) rule.entry.file.now
         → (result ≡ Err (Unplanned.File Fault.Read)) ⊎ (result ≡ Err (Unplanned.File Fault.Memory)) }
-    ensures fetched { LeftByFetch (B.fetch_gives shelf.old rule.entry.file.now (MOST_DESCRIPTION + 1)) shelf.new }
+    ensures fetched { LeftByFetch B.Shelf rule.entry.file.now MOST_DESCRIPTION shelf.old shelf.new }
     ensures given { IfOk result (λ desc. (text : List ℕ) × (rules : RulesV)
-        × GivesDescription B.fetch_gives (B.files shelf.old) rule.entry.file.now text shelf.old shelf.new
+        × GivesDescription B.Shelf rule.entry.file.now text shelf.old shelf.new
         × HasRules text rules × IsResolved rules rule.entry.name.now rule.entry.reading desc) }
     ensures files { B.files shelf.new ≡ B.files shelf.old }
-    ensures shelf { Keeps (B.steady shelf.old) (B.steady shelf.new) (B.faults shelf.old) (B.faults shelf.new) (result ≡ Err (Unplanned.File Fault.Read)) }
+    ensures shelf { KeepsShelf B.Shelf shelf.old shelf.new (result ≡ Err (Unplanned.File Fault.Read)) }
 {
     let text = description(alloc, shelf, rule.file)?;
     Ok(described_text(alloc, &text, rule.name.as_bytes(), rule.reading)?)
@@ -117,16 +117,15 @@ pub fn verify_file<B: Shelf>(
         → JobEnds words (B.files shelf.old) watchers left left taken taken pending.new.items result }
     ensures read { result ≡ Err Fault.Read → (words : List (List ℕ))
         → IsVerify words rule.entry.file.now rule.entry.name.now rule.entry.reading certificate.now
-        → (file : List ℕ) × ComesTo words (B.files shelf.old) file
-        × CannotRead (B.files shelf.old) (B.faults shelf.old) (B.faults shelf.new) (B.last_fault shelf.new) file }
+        → FileFails B.Shelf words shelf.old shelf.new }
     ensures not_write { result ≢ Err Fault.Write }
     ensures missing { (words : List (List ℕ)) (file : List ℕ) → IsVerify words rule.entry.file.now rule.entry.name.now rule.entry.reading certificate.now
         → ComesTo words (B.files shelf.old) file → LacksFile (B.files shelf.old) file
         → ((result ≡ Err Fault.Read) ⊎ (result ≡ Err Fault.Memory)) × (pending.new.items ≡ []) }
     ensures fetched { (words : List (List ℕ))
         → IsVerify words rule.entry.file.now rule.entry.name.now rule.entry.reading certificate.now
-        → FetchesInOrder words B.fetch_gives (B.files shelf.old) shelf.old shelf.new }
-    ensures shelf { Keeps (B.steady shelf.old) (B.steady shelf.new) (B.faults shelf.old) (B.faults shelf.new) (result ≡ Err Fault.Read) }
+        → FetchesInOrder B.Shelf words shelf.old shelf.new }
+    ensures shelf { KeepsShelf B.Shelf shelf.old shelf.new (result ≡ Err Fault.Read) }
 {
     known();
     let desc = match described(alloc, shelf, rule) {

@@ -1,0 +1,87 @@
+//! The words of the program, as `clap` reads them.
+
+use clap::error::ErrorKind;
+use clap::{Arg, ArgMatches, Command, Error};
+use csn_companion::{Asked, Job, reading_of};
+use std::alloc::{AllocError, Global};
+
+/// The version that is told.
+const VERSION: &str = "1.0";
+
+/// What may be asked for, in the order of the help.
+static JOBS: [Job; 6] = [
+    Job::Check,
+    Job::Nodes,
+    Job::Fields,
+    Job::Show,
+    Job::Picture,
+    Job::Write,
+];
+
+/// What a job does, for the help.
+fn about<'a>(job: Job) -> &'a str {
+    match job {
+        Job::Check => "Says whether a description is certified, and if not what is wrong",
+        Job::Nodes =>
+            "Lists the nodes of a description, with the places where they stand in its text",
+        Job::Fields =>
+            "Reads block lines, and lists the fields of each with their places, for other programs",
+        Job::Show => "Reads block lines, and shows the fields of each as a table",
+        Job::Picture => "Reads block lines, and draws them bit by bit as one page of HTML",
+        Job::Write =>
+            "Reads trees, and writes the block of each, or says in words where it does not fit",
+    }
+}
+
+/// The words of one job.
+fn job_words<'a>(alloc: Global, job: Job) -> Result<Command<'a>, AllocError> {
+    let file = Arg::new(alloc, "FILE")
+        .required(true)
+        .help("A file with a description");
+    let name = Arg::new(alloc, "NAME")
+        .required(true)
+        .help("The name of a rule, without angle brackets");
+    let reading = Arg::new(alloc, "READING").required(true).help(
+        "received: what a receiver must take; sent: what a sender may write",
+    );
+    Command::new(alloc, job.word())
+        .about(about(job))
+        .arg(file)?
+        .arg(name)?
+        .arg(reading)
+}
+
+/// The words of the program.
+fn program_words<'a>(alloc: Global) -> Result<Command<'a>, AllocError> {
+    let mut program = Command::new(alloc, "csn_explain")
+        .version(VERSION)
+        .about("Explains CSN.1 descriptions, and blocks by them")
+        .subcommand_required(true)
+        .arg_required_else_help(true);
+    for job in JOBS {
+        program = program.subcommand(job_words(alloc, job)?)?;
+    }
+    Ok(program)
+}
+
+/// What the words that were read ask for, where they name a reading.
+fn asked_by<'a>(matches: &ArgMatches<'a>) -> Option<Asked<'a>> {
+    let (word, arguments) = matches.subcommand()?;
+    Some(Asked {
+        job: Job::of_word(word)?,
+        file: arguments.get_str("FILE")?,
+        name: arguments.get_str("NAME")?,
+        reading: reading_of(arguments.get_str("READING")?)?,
+    })
+}
+
+/// What the words ask for, of which the first is the name of the program. The error has the text for its user, which is
+/// the help or the version where these were asked for.
+pub fn read_words<'a>(alloc: Global, words: &'a [String]) -> Result<Asked<'a>, Error> {
+    let mut program = program_words(alloc)?;
+    let matches = program.try_get_matches_from_mut(words)?;
+    match asked_by(&matches) {
+        Some(asked) => Ok(asked),
+        None => Err(program.error(ErrorKind::InvalidValue, "READING is `received` or `sent`")?),
+    }
+}
