@@ -19,7 +19,7 @@ from pathlib import Path
 ROOT = Path(__file__).resolve().parent.parent
 C = ROOT / "bindings" / "c"
 ENTRIES = {"downlink": "Downlink Control Block", "uplink": "Uplink Control Block"}
-CALLS = ("judge", "show", "json", "write")
+CALLS = ("judge", "tell", "show", "json", "write")
 COMMANDS = {"show": "show", "json": "json", "write": "write"}
 BLOCKS = 2000
 RUNS = 5
@@ -73,7 +73,7 @@ def by_python(catalogue, name, blocks, count):
     rule = nambroit.Description(catalogue.read_bytes(), name)
     given = [bytes.fromhex(block) for block in blocks]
     trees = [rule.show(octets) for octets in given]
-    calls = {"judge": (rule.judge, given), "show": (rule.show, given),
+    calls = {"judge": (rule.judge, given), "tell": (rule.fields, given), "show": (rule.show, given),
              "json": (lambda octets: rule.show(octets, form="json"), given), "write": (rule.write, trees)}
 
     def turn(call, values):
@@ -119,7 +119,7 @@ def main():
         for word, name in ENTRIES.items():
             sample = (ROOT / "docs" / "examples" / f"{word}.blocks").read_text().split()[0]
             blocks = made_blocks(program, catalogue, name, sample, rng)
-            print(f"| {word}, blocks a second | " + " | ".join(CALLS) + " |\n|---|---|---|---|---|")
+            print(f"| {word}, blocks a second | " + " | ".join(CALLS) + " |\n|---" + "|---" * len(CALLS) + "|")
             print(row("csn_cli", by_program(program, catalogue, name, blocks, options.count)), flush=True)
             print(row("C", by_speed([room / "speed"], catalogue, name, blocks, options.count)), flush=True)
             print(row("Rust", by_speed(in_rust, catalogue, name, blocks, options.count, **where)), flush=True)

@@ -1,5 +1,5 @@
-/* csn.h - Nambroit for C: a rule of a CSN.1 description is compiled into a handle, and by it blocks are judged, shown as text
- * or JSON, and written from either. bindings/README.md says how the library is built and linked.
+/* csn.h - Nambroit for C: a rule of a CSN.1 description is compiled into a handle, and by it blocks are judged, told event by
+ * event, shown as text or JSON, and written from either. bindings/README.md says how the library is built and linked.
  *
  * The library asks its host for memcpy, memmove, memset and the three functions at the end (heap.c has them over malloc), and
  * for nothing else: it has no thread, no file, no variable of its own, and no exit, abort, signal or longjmp.
@@ -12,8 +12,8 @@
  *     (const) or read and written, for the whole call; a length is below 2^63. Each other pointer points to one object that
  *     can be written. What can be written overlaps nothing else that is passed.
  *  2. A csn_rule is all zero, or as the last call left it. It is not copied and then used twice, and not looked into.
- *  3. One call at a time uses a csn_rule. Other threads may use other handles meanwhile. That a handle may go to another thread
- *     is tested, and not proved.
+ *  3. One call at a time uses a csn_rule. Other threads may use other handles meanwhile, and a handle may go to another thread,
+ *     which is proved.
  *  4. The three functions at the end come from one allocator, and align as malloc does (16).
  *  5. No call is made from a signal handler, nor in a forked child of a process with threads.
  *  6. There are 64 KiB of stack. (The tests see what is used.)
@@ -47,6 +47,57 @@ typedef struct csn_why {
     uint32_t place;
 } csn_why;
 
+/* A node of a rule. */
+typedef struct csn_shape {
+    uint32_t kind; /* of a leaf as in csn_kind, of another node as in csn_node_kind */
+    uint32_t bits; /* how many bits it has, where it is a leaf that has as many in all blocks; else CSN_ANY_BITS */
+} csn_shape;
+
+#define CSN_ANY_BITS 0xFFFFFFFFu
+
+/* The kinds of node that are no leaves. */
+enum csn_node_kind {
+    CSN_NULL = 7, /* it takes no bits */
+    CSN_SEQUENCE = 8,
+    CSN_CHOICE = 9,
+    CSN_TIMES = 10, /* a part as many times as counted */
+    CSN_MANY = 11,  /* a part any number of times */
+    CSN_TRUNCATION = 12,
+    CSN_WINDOW = 13, /* a part with as many bits as counted */
+    CSN_LABEL = 14
+};
+
+/* An event of a block. A node of the rule is a leaf, which takes bits, or has parts; a leaf is told as it ends, and each other
+ * node where it begins and where it ends. */
+typedef struct csn_event {
+    uint32_t node;   /* the number of the node, as at csn_label */
+    uint32_t kind;   /* as in csn_kind */
+    uint32_t role;   /* what it is of the node round it, as in csn_role; 0 at CSN_END */
+    uint32_t number; /* of an alternative or of a turn, from 0; else 0 */
+    uint32_t place;  /* the first bit of a leaf; at CSN_BEGIN and CSN_END the next bit; from 0 */
+    uint32_t bits;   /* how many bits a leaf has; else 0 */
+    uint64_t value;  /* the number that they write, the first bit most significant; 0 where they are more than 64 */
+} csn_event;
+
+/* What an event is of: the beginning or the end of a node with parts, or a leaf of a kind. */
+enum csn_kind {
+    CSN_BEGIN = 0,
+    CSN_LITERAL = 1, /* bits that the rule fixes */
+    CSN_SPARE = 2,   /* one spare bit */
+    CSN_FIELD = 3,
+    CSN_REST = 4,    /* any bits to the end */
+    CSN_PADDING = 5, /* spare padding to the end */
+    CSN_END = 6
+};
+
+/* What a node is of the one round it. */
+enum csn_role {
+    CSN_ROOT = 0, /* no node is round it */
+    CSN_PART = 1,
+    CSN_ALTERNATIVE = 2, /* of a choice */
+    CSN_TURN = 3         /* of a repetition */
+};
+
 /* A reading: what a receiver must take, or what a sender may write. */
 enum csn_reading { CSN_RECEIVED = 0, CSN_SENT = 1 };
 
@@ -67,7 +118,8 @@ enum csn_status {
     CSN_NO_LABEL = 10,    /* there is no such node, or it has no label */
     CSN_NO_TEXT = 11,     /* the bytes are the text of no tree; *number: how many of them begin one */
     CSN_NO_JSON = 12,     /* the bytes are no JSON */
-    CSN_NO_TREE = 13      /* the JSON shows no tree */
+    CSN_NO_TREE = 13,     /* the JSON shows no tree */
+    CSN_NO_NODE = 14      /* there is no such node */
 };
 
 /* Why a tree first misses a description, as the lines of the program name it. */
@@ -100,6 +152,15 @@ void csn_free(csn_rule *rule);
  * more, can be followed. Tested: no memory is taken. */
 uint32_t csn_judge(csn_rule *rule, const uint8_t *octets, size_t octets_len, uint32_t bits, size_t *number);
 
+/* The events of a block in the order of its bits: its leaves lie one behind another, and each bit lies in one. There are *count
+ * events, of which the first out_len stand in out. Where the node before that of a leaf has a label, it is that of the leaf.
+ * Proved: the handle holds what it held. At CSN_OK the events are those of the one tree of the block. At CSN_REFUSED, which is
+ * as at csn_judge, they are those with which each block begins that goes on from the place. The rest of out is as it was. At
+ * any other status out and *count are as they were. Tested: from the second block on no memory is taken, unless there are more
+ * events than before. */
+uint32_t csn_tell(csn_rule *rule, const uint8_t *octets, size_t octets_len, uint32_t bits,
+                  csn_event *out, size_t out_len, size_t *count, size_t *number);
+
 /* The tree of a block as text or JSON, with no byte 0 behind. It has *number bytes, of which the first out_len stand in out.
  * Proved: the handle holds what it held. At CSN_OK out begins with the text of the one tree of the block, as far as there is
  * room, whose length is *number, and the rest of out is as it was. At any other status out is as it was, and CSN_REFUSED is
@@ -114,8 +175,19 @@ uint32_t csn_show(csn_rule *rule, const uint8_t *octets, size_t octets_len, uint
 uint32_t csn_write(csn_rule *rule, const uint8_t *bytes, size_t bytes_len, uint32_t form,
                    uint8_t *out, size_t out_len, size_t *number);
 
+/* Where a tree first misses the rule. It answers as csn_write, of which it writes nothing; at CSN_NO_BLOCK it tells besides the
+ * path from the root to there: at each tree the number of the next one in it, from 0, and 0 below an alternative and below a
+ * label. The path has *count steps, at most 64, of which the first out_len stand in out.
+ * Proved: all of this, and that the handle holds what it held. At any other status out and *count are as they were. */
+uint32_t csn_misfit(csn_rule *rule, const uint8_t *bytes, size_t bytes_len, uint32_t form,
+                    uint32_t *out, size_t out_len, size_t *count, size_t *number);
+
 /* Proved: the number of nodes of the rule, and 0 of an empty handle, which holds what it held. */
 uint32_t csn_nodes(csn_rule *rule);
+
+/* What a node is.
+ * Proved: all that csn_shape says; the handle holds what it held; and CSN_NO_NODE where there is none, with *shape as it was. */
+uint32_t csn_node(csn_rule *rule, uint32_t node, csn_shape *shape);
 
 /* The label of a node, which are numbered from 0. It has *number bytes, of which the first out_len stand in out.
  * Proved: all of this; the handle holds what it held; and CSN_NO_LABEL where there is none, with out as it was. */

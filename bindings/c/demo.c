@@ -1,4 +1,4 @@
-/* demo.c - a rule is compiled, blocks are shown and judged by it, and a tree is written. bindings/check compares what it prints
+/* demo.c - a rule is compiled, blocks are shown and told event by event by it, and a tree is written. bindings/check compares what it prints
  * with demo.out. */
 #include "csn.h"
 #include <stdio.h>
@@ -26,12 +26,49 @@ static void show(csn_rule *rule, uint8_t octet, uint32_t form)
         printf("show: status %u, number %zu\n", status, number);
 }
 
+static void tell(csn_rule *rule, uint8_t octet)
+{
+    csn_event events[16];
+    size_t count = 0, number = 0;
+    uint32_t status = csn_tell(rule, &octet, 1, 8, events, 16, &count, &number);
+    if (status != CSN_OK && status != CSN_REFUSED) {
+        printf("tell: status %u\n", status);
+        return;
+    }
+    for (const csn_event *it = events; it < events + count && it < events + 16; it++)
+        printf("tell: node %u, kind %u, role %u, bits %u from %u, value %llu\n", it->node, it->kind, it->role, it->bits,
+               it->place, (unsigned long long)it->value);
+    if (status == CSN_REFUSED)
+        printf("tell: refused, number %zu\n", number);
+}
+
 static void write_tree(csn_rule *rule, const char *tree)
 {
     uint8_t out[16] = {0};
     size_t bits = 0;
     uint32_t status = csn_write(rule, (const uint8_t *)tree, strlen(tree), CSN_TEXT, out, sizeof out, &bits);
     printf("write: status %u, number %zu, first octet %02X\n", status, bits, out[0]);
+}
+
+static void misfit(csn_rule *rule, const char *tree)
+{
+    uint32_t path[64];
+    size_t count = 0, number = 0;
+    uint32_t status = csn_misfit(rule, (const uint8_t *)tree, strlen(tree), CSN_TEXT, path, 64, &count, &number);
+    printf("misfit: status %u, number %zu, path ", status, number);
+    for (size_t i = 0; i < count; i++)
+        printf("/%u", path[i]);
+    putchar('\n');
+}
+
+static void nodes(csn_rule *rule)
+{
+    csn_shape shape = {0, 0};
+    for (uint32_t node = 0; csn_node(rule, node, &shape) == CSN_OK; node++)
+        if (shape.bits != CSN_ANY_BITS)
+            printf("node: %u has kind %u and %u bits\n", node, shape.kind, shape.bits);
+        else
+            printf("node: %u has kind %u\n", node, shape.kind);
 }
 
 static void labels(csn_rule *rule)
@@ -57,10 +94,14 @@ int main(void)
     show(&rule, 0xA5, CSN_TEXT);
     show(&rule, 0xA5, CSN_JSON);
     show(&rule, 0xB5, CSN_TEXT);
+    tell(&rule, 0xA5);
+    tell(&rule, 0xB5);
     write_tree(&rule, "[<A>=3'5 . <B>=4'5]");
     write_tree(&rule, "[<A>=3'5 . <B>=5'5]");
     write_tree(&rule, "[<A>=3'5 . <B>=");
+    misfit(&rule, "[<A>=3'5 . <B>=5'5]");
     labels(&rule);
+    nodes(&rule);
     csn_free(&rule);
     csn_free(&rule);
     show(&rule, 0xA5, CSN_TEXT);

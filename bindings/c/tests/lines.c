@@ -3,17 +3,20 @@
  * usage: lines show|json|write|unjson FILE NAME READING
  *
  * For `show` and `json` the lines are blocks, else trees. Where a rule is not compiled, one line tells why: of a conflict its
- * kind and its node. Where no block has a tree, `no WHY` without the path. The status is 1 where two calls do not agree. */
+ * kind and its node. Where no block has a tree, `no PATH WHY`
+ * without counts. The status is 1 where two calls do not agree. */
 #include "common.h"
 #include <stdio.h>
 #include <stdlib.h>
 #include <string.h>
 
-enum { MOST_LINE_BYTES = 1 << 22, MOST_OCTETS = CSN_MOST_BITS / 8 };
+enum { MOST_LINE_BYTES = 1 << 22, MOST_OCTETS = CSN_MOST_BITS / 8, MOST_EVENTS = 1 << 16, MOST_DEPTH = 64 };
 
 static char line[MOST_LINE_BYTES];
 static uint8_t octets[MOST_OCTETS], back[MOST_OCTETS];
 static uint8_t out[MOST_LINE_BYTES], again[MOST_LINE_BYTES];
+static csn_event events[MOST_EVENTS], events_again[MOST_EVENTS + 1];
+static uint32_t opened[MOST_DEPTH], depth, end;
 
 static const char *const MISFITS[] = {
     "",           "WrongKind",         "WrongLabel",   "WrongCount", "WrongWidth",
@@ -73,6 +76,57 @@ static void write_back(csn_rule *rule, size_t length, uint32_t bits, uint32_t fo
         odd("octets written back", back[0], octets[0]);
 }
 
+/* What is told again is the same, also where there is less room: then the rest of the array stays. */
+static void tell_again(csn_rule *rule, size_t length, uint32_t bits, size_t count)
+{
+    size_t again_count = 0, number = 0, room = count < MOST_EVENTS ? count / 2 : 0;
+    memset(&events_again[room], 0x55, sizeof events_again[room]);
+    csn_tell(rule, octets, length, bits, events_again, room, &again_count, &number);
+    if (again_count != count || memcmp(events_again, events, room * sizeof events[0]) != 0)
+        odd("events with less room", again_count, count);
+    if (events_again[room].node != 0x55555555)
+        odd("an event past the room", events_again[room].node, 0x55555555);
+}
+
+/* The number that some bits of the block write. */
+static uint64_t value_of(const csn_event *leaf)
+{
+    uint64_t value = 0;
+    for (uint32_t bit = leaf->place; bit < leaf->place + leaf->bits; bit++)
+        value = 2 * value + (octets[bit / 8] >> (7 - bit % 8) & 1);
+    return leaf->bits <= 64 ? value : 0;
+}
+
+/* The next event of a block, of which the leaves end here: a leaf goes on from there, and a node ends that is the last to have
+ * begun. */
+static void tell_event(const csn_event *it, uint32_t bits)
+{
+    if (it->place != end)
+        odd("place of an event", it->place, end);
+    if (it->kind == CSN_BEGIN && depth < MOST_DEPTH)
+        opened[depth++] = it->node;
+    else if (it->kind == CSN_END && (depth == 0 || opened[--depth] != it->node))
+        odd("node that ends", it->node, depth);
+    end += it->bits;
+    if (end <= bits && it->value != value_of(it))
+        odd("value of a leaf", it->value, value_of(it));
+}
+
+/* The leaves of a block have its bits, all of them or those before a place at most. */
+static void tell(csn_rule *rule, size_t length, uint32_t bits, uint32_t shown, size_t place)
+{
+    size_t count = 0, number = 0;
+    uint32_t status = csn_tell(rule, octets, length, bits, events, MOST_EVENTS, &count, &number);
+    if (status != shown || (status == CSN_REFUSED && number != place))
+        odd("status of the events", status, shown);
+    end = depth = 0;
+    for (size_t i = 0; i < count && i < MOST_EVENTS; i++)
+        tell_event(&events[i], bits);
+    if (count <= MOST_EVENTS && (status == CSN_OK ? end != bits || depth != 0 : end > place))
+        odd("bits in the leaves", end, bits);
+    tell_again(rule, length, bits, count);
+}
+
 static void show(csn_rule *rule, uint32_t form)
 {
     size_t length, number = 0, place = 0;
@@ -81,6 +135,7 @@ static void show(csn_rule *rule, uint32_t form)
     uint32_t judged = csn_judge(rule, octets, length, bits, &place);
     if (judged != status || (status == CSN_REFUSED && place != number))
         odd("status of a judge", judged, status);
+    tell(rule, length, bits, status, number);
     if (status == CSN_OK) {
         printf("ok %.*s\n", (int)number, (const char *)out);
         show_again(rule, length, bits, form, number);
@@ -92,6 +147,20 @@ static void show(csn_rule *rule, uint32_t form)
     }
 }
 
+/* Where the tree of a line that has no block first misses the rule, and why. */
+static void write_misfit(csn_rule *rule, uint32_t form, size_t why)
+{
+    uint32_t path[64];
+    size_t count = 0, number = 0;
+    uint32_t status = csn_misfit(rule, (const uint8_t *)line, strcspn(line, "\n"), form, path, 64, &count, &number);
+    if (status != CSN_NO_BLOCK || number != why || count > 64)
+        odd("reason of a misfit", number, why);
+    fputs(count == 0 ? "no /" : "no ", stdout);
+    for (size_t i = 0; i < count && i < 64; i++)
+        printf("/%u", path[i]);
+    printf(" %s\n", why <= 8 ? MISFITS[why] : "");
+}
+
 static void write_tree(csn_rule *rule, uint32_t form)
 {
     size_t number = 0;
@@ -101,7 +170,7 @@ static void write_tree(csn_rule *rule, uint32_t form)
         write_block(back, number);
         break;
     case CSN_NO_BLOCK:
-        printf("no %s\n", number <= 8 ? MISFITS[number] : "");
+        write_misfit(rule, form, number);
         break;
     case CSN_NO_TEXT:
         printf("bad %zu\n", number);

@@ -54,6 +54,7 @@ void rattle_dealloc(void *p)
 static bytes text, block, tree;
 static const char *name, *reading;
 static uint8_t out[1 << 16];
+static csn_event events[1 << 10];
 
 /* What is tried: a call on a handle. */
 typedef uint32_t (*call)(csn_rule *rule);
@@ -77,11 +78,27 @@ static uint32_t shows(csn_rule *rule)
     return status;
 }
 
+static uint32_t tells(csn_rule *rule)
+{
+    size_t count = 77, number = 77;
+    events[0].node = 77;
+    uint32_t status = csn_tell(rule, block.at, block.length, 8 * (uint32_t)block.length, events, 1 << 10, &count, &number);
+    if (status == CSN_NO_MEMORY && (count != 77 || number != 77 || events[0].node != 77))
+        odd("count for want of memory", count, 77);
+    return status;
+}
+
 /* The first block of a handle. */
 static uint32_t compiles_and_shows(csn_rule *rule)
 {
     uint32_t status = compiles(rule);
     return status == CSN_OK ? shows(rule) : status;
+}
+
+static uint32_t compiles_and_tells(csn_rule *rule)
+{
+    uint32_t status = compiles(rule);
+    return status == CSN_OK ? tells(rule) : status;
 }
 
 static uint32_t writes(csn_rule *rule)
@@ -159,9 +176,11 @@ int main(int count, char **words)
     long step = count == 6 ? atol(words[5]) : 1;
     refuse_each("compile", compiles, NULL, 0, step);
     refuse_each("first block", compiles_and_shows, NULL, allocations(compiles, &rule), 1);
+    refuse_each("first events", compiles_and_tells, NULL, allocations(compiles, &rule), 1);
     refuse_each("compile again", compiles, &rule, 0, 37 * step);
     allocations(shows, &rule);
-    if (allocations(shows, &rule) != 0 || allocations(judges, &rule) != 0)
+    allocations(tells, &rule);
+    if (allocations(shows, &rule) + allocations(judges, &rule) + allocations(tells, &rule) != 0)
         odd("allocations of a later block", (size_t)heap.calls, 0);
     size_t length = 0;
     csn_show(&rule, block.at, block.length, 8 * (uint32_t)block.length, CSN_TEXT, out, sizeof out, &length);

@@ -1,4 +1,4 @@
-/* speed.c - how many blocks a second are judged, shown and written.
+/* speed.c - how many blocks a second are judged, told, shown and written.
  *
  * usage: speed FILE NAME READING COUNT < BLOCKS
  *
@@ -11,7 +11,7 @@
 #include <string.h>
 #include <time.h>
 
-enum { MOST_BLOCKS = 4096, MOST_OCTETS = 256, MOST_TEXT = 8192, RUNS = 5 };
+enum { MOST_BLOCKS = 4096, MOST_OCTETS = 256, MOST_TEXT = 8192, MOST_EVENTS = 1024, RUNS = 5 };
 
 static struct {
     uint8_t octets[MOST_OCTETS];
@@ -23,6 +23,7 @@ static struct {
 static size_t block_count = 0;
 static csn_rule rule = {0};
 static uint8_t out[MOST_TEXT];
+static csn_event events[MOST_EVENTS];
 
 static double now(void)
 {
@@ -35,6 +36,13 @@ static uint32_t judges(size_t i)
 {
     size_t number;
     return csn_judge(&rule, blocks[i].octets, blocks[i].length, 8 * (uint32_t)blocks[i].length, &number);
+}
+
+static uint32_t tells(size_t i)
+{
+    size_t count, number;
+    return csn_tell(&rule, blocks[i].octets, blocks[i].length, 8 * (uint32_t)blocks[i].length, events, MOST_EVENTS, &count,
+                    &number);
 }
 
 static uint32_t shows(size_t i)
@@ -100,6 +108,7 @@ int main(int count, char **words)
     if (block_count == 0)
         return 2;
     time_of("judge", judges, many);
+    time_of("tell", tells, many);
     time_of("show", shows, many);
     time_of("json", shows_json, many);
     time_of("write", writes, many);

@@ -1,9 +1,11 @@
-"""Nambroit for Python: a rule of a CSN.1 description is compiled, and by it blocks are judged, shown and written.
+"""Nambroit for Python: a rule of a CSN.1 description is compiled, and by it blocks are judged, told, shown and written.
 
     >>> from nambroit import Description
     >>> rule = Description("<M> ::= <A : bit (3)> 0 <B : bit (4)> ;", "M")
     >>> rule.show(b"\\xa5")
     "[<A>=3'5 . <B>=4'5]"
+    >>> [(field.label, field.value) for field in rule.fields(b"\\xa5")]
+    [('A', 5), (None, 0), ('B', 5)]
     >>> rule.write("[<A>=3'5 . <B>=4'5]")
     Block(octets=b'\\xa5', bits=8)
 
@@ -19,12 +21,14 @@ import threading
 from pathlib import Path
 from typing import NamedTuple
 
-__all__ = ["Block", "Conflict", "Description", "Fault", "NoBlock", "NoTree", "Refused", "RuleRefused", "SyntaxRefused",
-           "TooLong"]
+__all__ = ["Block", "Conflict", "Description", "Event", "Fault", "Field", "NoBlock", "NoTree", "Refused", "RuleRefused",
+           "SyntaxRefused", "TooLong"]
 
 VERSION = 1
 READINGS = {"received": 0, "sent": 1}
 FORMS = {"text": 0, "json": 1}
+ROLES = {0: "root", 1: "part", 2: "alternative", 3: "turn"}
+KINDS = {0: "begin", 6: "end", 1: "literal", 2: "spare", 3: "field", 4: "rest", 5: "padding"}
 MISFITS = {1: "WrongKind", 2: "WrongLabel", 3: "WrongCount", 4: "WrongWidth", 5: "WrongSpare", 6: "NoSuchAlternative",
            7: "WindowLength", 8: "TooManyBits"}
 
@@ -37,6 +41,31 @@ class Block(NamedTuple):
 
     octets: bytes
     bits: int
+
+
+class Event(NamedTuple):
+    """A leaf of a block has ended, or a node with parts begins or ends: `kind` is one of KINDS, `role` one of ROLES, and `number`
+    that of an alternative or of a turn. A leaf has `bits` bits from `place` on, which write `value`, if they are at most 64."""
+
+    node: int
+    kind: str
+    role: str
+    number: int
+    place: int
+    bits: int
+    value: int | None
+
+
+class Field(NamedTuple):
+    """A leaf of a block: `bits` bits from `place` on, which write the number `value`, if they are at most 64. `kind` is one of
+    KINDS; `label` that of the part that the leaf is, if it has one."""
+
+    node: int
+    kind: str
+    place: int
+    bits: int
+    value: int | None
+    label: str | None
 
 
 class Fault(Exception):
@@ -72,11 +101,12 @@ class TooLong(Fault):
 
 
 class Refused(Fault):
-    """The block has no tree: `place` of its bits can be followed. `ended` says that these are all, so it ends too early."""
+    """The block has no tree: `place` of its bits can be followed. `ended` says that these are all, so it ends too early.
+    `events` are those before the place, where they were asked for."""
 
-    def __init__(self, place: int, ended: bool):
+    def __init__(self, place: int, ended: bool, events: list[Event] | None = None):
         super().__init__(f"no {place} {'ended' if ended else 'bit'}")
-        self.place, self.ended = place, ended
+        self.place, self.ended, self.events = place, ended, events
 
 
 class NoTree(Fault):
@@ -89,11 +119,12 @@ class NoTree(Fault):
 
 
 class NoBlock(Fault):
-    """No block has the tree: `why` names the reason of its first misfit, as the program does."""
+    """No block has the tree: `why` names the reason of its first misfit, as the program does, and `path` the way there from the
+    root, at each tree the number of the next one in it."""
 
-    def __init__(self, why: str):
-        super().__init__(why)
-        self.why = why
+    def __init__(self, why: str, path: tuple[int, ...] = ()):
+        super().__init__("/" + "/".join(str(step) for step in path) + " " + why)
+        self.why, self.path = why, path
 
 
 class _Rule(ctypes.Structure):
@@ -102,6 +133,11 @@ class _Rule(ctypes.Structure):
 
 class _Why(ctypes.Structure):
     _fields_ = [("number", ctypes.c_uint32), ("place", ctypes.c_uint32)]
+
+
+class _Event(ctypes.Structure):
+    _fields_ = [("node", ctypes.c_uint32), ("kind", ctypes.c_uint32), ("role", ctypes.c_uint32), ("number", ctypes.c_uint32),
+                ("place", ctypes.c_uint32), ("bits", ctypes.c_uint32), ("value", ctypes.c_uint64)]
 
 
 def _load() -> ctypes.CDLL:
@@ -114,20 +150,27 @@ def _load() -> ctypes.CDLL:
         "csn_compile": [chars, size, chars, size, u32, rule, ctypes.POINTER(_Why)],
         "csn_free": [rule],
         "csn_judge": [rule, chars, size, u32, number],
+        "csn_tell": [rule, chars, size, u32, room, size, number, number],
         "csn_show": [rule, chars, size, u32, u32, room, size, number],
         "csn_write": [rule, chars, size, u32, room, size, number],
+        "csn_misfit": [rule, chars, size, u32, room, size, number, number],
         "csn_nodes": [rule],
         "csn_label": [rule, u32, room, size, number],
     }
     for name, arguments in calls.items():
         call = getattr(library, name)
-        call.argtypes, call.restype = arguments, None if name == "csn_free" else u32
+        call.argtypes, call.restype = arguments, None if name.endswith("_free") else u32
     if library.csn_version() != VERSION:
         raise ImportError(f"libcsn.so is of version {library.csn_version()}, and this module of version {VERSION}")
     return library
 
 
 _library = _load()
+
+
+def _event(it: _Event) -> Event:
+    value = it.value if it.bits <= 64 else None
+    return Event(it.node, KINDS[it.kind], ROLES[it.role], it.number, it.place, it.bits, value)
 
 
 def _bytes_of(text: str | bytes) -> bytes:
@@ -142,6 +185,7 @@ class Description:
         self._rule = _Rule()
         self._number = ctypes.c_size_t()
         self._room = ctypes.create_string_buffer(4096)
+        self._told, self._labels = (_Event * 256)(), {}
         given, asked, why = _bytes_of(text), _bytes_of(name), _Why()
         status = _library.csn_compile(given, len(given), asked, len(asked), READINGS[reading], self._rule, why)
         if status == SYNTAX:
@@ -150,7 +194,8 @@ class Description:
             raise RuleRefused(why.number, why.place)
         if status == CONFLICT:
             raise Conflict(why.number, why.place)
-        self._raise_other(status)
+        _raise_other(status)
+        self._labels = self.labels()
 
     def __del__(self):
         if hasattr(self, "_rule"):
@@ -162,6 +207,30 @@ class Description:
         with self._lock:
             status = _library.csn_judge(self._rule, octets, len(octets), bits, self._number)
             self._raise_block(status, bits)
+
+    def events(self, octets: bytes, bits: int | None = None) -> list[Event]:
+        """The events of a block in the order of its bits; a `Refused` with those before its place where it has no tree."""
+        octets, bits = bytes(octets), 8 * len(octets) if bits is None else bits
+        with self._lock:
+            status, count = self._tell(octets, bits)
+            if status in (OK, REFUSED) and count > len(self._told):
+                self._told = (_Event * count)()
+                status, count = self._tell(octets, bits)
+            found = [_event(it) for it in self._told[:count]] if status in (OK, REFUSED) else []
+            if status == REFUSED:
+                raise Refused(self._number.value, self._number.value == bits, found)
+            _raise_other(status)
+            return found
+
+    def fields(self, octets: bytes, bits: int | None = None) -> list[Field]:
+        """The leaves of a block in the order of its bits; a `Refused` where it has no tree."""
+        return [Field(it.node, it.kind, it.place, it.bits, it.value, self._labels.get(it.node - 1))
+                for it in self.events(octets, bits) if it.kind not in ("begin", "end")]
+
+    def _tell(self, octets: bytes, bits: int) -> tuple[int, int]:
+        count = ctypes.c_size_t()
+        status = _library.csn_tell(self._rule, octets, len(octets), bits, self._told, len(self._told), count, self._number)
+        return status, count.value
 
     def show(self, octets: bytes, bits: int | None = None, form: str = "text") -> str:
         """The tree of a block as text or as JSON; a `Refused` where it has none."""
@@ -190,13 +259,19 @@ class Description:
             status = self._with_room(call, lambda number: (number + 7) // 8)
             number = self._number.value
             if status == NO_BLOCK:
-                raise NoBlock(MISFITS[number])
+                raise NoBlock(MISFITS[number], self._misfit(given, form))
             if status == NO_TEXT:
                 raise NoTree(number)
             if status in (NO_JSON, NO_TREE):
                 raise NoTree(None, status == NO_TREE)
-            self._raise_other(status)
+            _raise_other(status)
             return Block(self._room.raw[:(number + 7) // 8], number)
+
+    def _misfit(self, given: bytes, form: str) -> tuple[int, ...]:
+        """The path of the first misfit of a tree that has no block. It has at most 64 steps."""
+        path, count = (ctypes.c_uint32 * 64)(), ctypes.c_size_t()
+        _raise_other(_library.csn_misfit(self._rule, given, len(given), FORMS[form], path, 64, count, self._number), NO_BLOCK)
+        return tuple(path[:count.value])
 
     def labels(self) -> dict[int, str]:
         """The labels of the nodes that have one, by their numbers."""
@@ -222,15 +297,15 @@ class Description:
     def _raise_block(self, status: int, bits: int) -> None:
         if status == REFUSED:
             raise Refused(self._number.value, self._number.value == bits)
-        self._raise_other(status)
+        _raise_other(status)
 
-    @staticmethod
-    def _raise_other(status: int) -> None:
-        if status == NO_MEMORY:
-            raise MemoryError
-        if status == TOO_LONG:
-            raise TooLong
-        if status == BAD_ARGUMENT:
-            raise ValueError("no block: it has fewer bits, or more than 524,288 are asked for")
-        if status != OK:
-            raise Fault(f"status {status}")
+
+def _raise_other(status: int, fine: int = OK) -> None:
+    if status == NO_MEMORY:
+        raise MemoryError
+    if status == TOO_LONG:
+        raise TooLong
+    if status == BAD_ARGUMENT:
+        raise ValueError("no block: it has fewer bits, or more than 524,288 are asked for")
+    if status != fine:
+        raise Fault(f"status {status}")

@@ -12,7 +12,7 @@ sys.dont_write_bytecode = True
 sys.path.insert(0, str(Path(__file__).resolve().parent.parent))
 
 import nambroit  # noqa: E402
-from nambroit import Block, Description  # noqa: E402
+from nambroit import Block, Description, Event, Field  # noqa: E402
 
 TEXT = "<M> ::= <A : bit (3)> 0 <B : bit (4)> ;"
 SHOWN = "[<A>=3'5 . <B>=4'5]"
@@ -34,6 +34,37 @@ class Calls(unittest.TestCase):
                     call(octets, bits)
                 self.assertEqual((caught.exception.place, caught.exception.ended), (place, ended))
 
+    def test_fields_are_told(self):
+        self.assertEqual(self.rule.fields(b"\xa5"), [
+            Field(2, "field", 0, 3, 5, "A"), Field(3, "literal", 3, 1, 0, None), Field(5, "field", 4, 4, 5, "B")])
+
+    def test_turns_and_alternatives_are_told(self):
+        rule = Description("<M> ::= { 1 <A : bit> | 0 } ** ;", "M")
+        self.assertEqual([(it.place, it.role, it.number) for it in rule.events(b"\xd0", 5)
+                          if it.role in ("turn", "alternative")],
+                         [(0, "turn", 0), (0, "alternative", 0), (2, "turn", 1), (2, "alternative", 1),
+                          (3, "turn", 2), (3, "alternative", 0)])
+
+    def test_events_before_a_refusal_are_told(self):
+        with self.assertRaises(nambroit.Refused) as caught:
+            self.rule.events(b"\xb5")
+        self.assertEqual(caught.exception.place, 3)
+        self.assertEqual(caught.exception.events, [
+            Event(0, "begin", "root", 0, 0, 0, 0), Event(1, "begin", "part", 0, 0, 0, 0), Event(2, "field", "part", 0, 0, 3, 5),
+            Event(1, "end", "root", 0, 3, 0, 0)])
+
+    def test_long_fields_have_no_value(self):
+        rule = Description("<M> ::= <A : bit (65)> <B : bit (64)> <spare padding> ;", "M")
+        told = rule.fields(bytes([0xff] * 16 + [0xab]))
+        self.assertEqual([(it.label, it.kind, it.bits, it.value) for it in told[:2]],
+                         [("A", "field", 65, None), ("B", "field", 64, 2 ** 64 - 1)])
+
+    def test_many_fields_have_room(self):
+        rule = Description("<M> ::= { 1 <ITEM : bit (7)> } ** ;", "M")
+        told = rule.fields(bytes([0xA5]) * 5000)
+        self.assertEqual([(it.place, it.value) for it in told],
+                         [pair for n in range(5000) for pair in ((8 * n, 1), (8 * n + 1, 37))])
+
     def test_trees_are_written(self):
         self.assertEqual(self.rule.write(SHOWN), Block(b"\xa5", 8))
         self.assertEqual(self.rule.write(self.rule.show(b"\xa5", form="json"), "json"), Block(b"\xa5", 8))
@@ -41,7 +72,7 @@ class Calls(unittest.TestCase):
     def test_trees_that_do_not_fit_are_told(self):
         with self.assertRaises(nambroit.NoBlock) as caught:
             self.rule.write("[<A>=3'5 . <B>=5'5]")
-        self.assertEqual(caught.exception.why, "WrongWidth")
+        self.assertEqual((caught.exception.why, caught.exception.path), ("WrongWidth", (2, 0)))
         with self.assertRaises(nambroit.NoTree) as caught:
             self.rule.write("[<A>=3'5 . <B>=")
         self.assertEqual(caught.exception.place, 15)

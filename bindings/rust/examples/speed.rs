@@ -1,4 +1,4 @@
-//! How many blocks a second are judged, shown and written.
+//! How many blocks a second are judged, told, shown and written.
 //!
 //! usage: speed FILE NAME READING COUNT < BLOCKS
 //!
@@ -48,6 +48,9 @@ fn main() -> Result<(), Box<dyn Error>> {
     }
     time_of("judge", &blocks, count, |octets| {
         rule.judge(Block::whole(octets)).unwrap()
+    });
+    time_of("tell", &blocks, count, |octets| {
+        rule.events(Block::whole(octets)).unwrap();
     });
     time_of("show", &blocks, count, |octets| {
         rule.show(Block::whole(octets), Form::Text).unwrap();

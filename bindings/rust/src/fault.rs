@@ -37,7 +37,7 @@ pub enum BlockFault {
 }
 
 /// Why a tree is not written.
-#[derive(Clone, Copy, Debug, PartialEq, Eq)]
+#[derive(Clone, Debug, PartialEq, Eq)]
 pub enum TreeFault {
     /// The bytes are the text of no tree, and so many of them begin one.
     NoText {
@@ -46,8 +46,12 @@ pub enum TreeFault {
     NoJson,
     /// The JSON shows no tree.
     NoTree,
-    /// No block has the tree.
-    NoBlock(Misfit),
+    /// No block has the tree. The path leads from the root to its first misfit: at each tree the number of the next one in it,
+    /// from 0, and 0 below an alternative and below a label.
+    NoBlock {
+        why: Misfit,
+        path: Vec<u32>,
+    },
     /// There are more than 16,777,216 bytes.
     TooLong,
     NoMemory,
@@ -114,7 +118,9 @@ impl fmt::Display for TreeFault {
             TreeFault::NoText { place } => write!(out, "no text of a tree from byte {place} on"),
             TreeFault::NoJson => write!(out, "no JSON"),
             TreeFault::NoTree => write!(out, "JSON that shows no tree"),
-            TreeFault::NoBlock(misfit) => write!(out, "no block has the tree: {misfit:?}"),
+            TreeFault::NoBlock { why, path } => {
+                write!(out, "no block has the tree: {why:?} at {path:?}")
+            }
             TreeFault::TooLong => write!(out, "the tree is too long"),
             TreeFault::NoMemory => write!(out, "no memory"),
         }

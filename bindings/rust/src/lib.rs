@@ -1,10 +1,13 @@
-//! Nambroit for Rust: a rule of a CSN.1 description is compiled, and by it blocks are judged, shown and written.
+//! Nambroit for Rust: a rule of a CSN.1 description is compiled, and by it blocks are judged, told, shown and
+//! written.
 //!
 //! ```
 //! use nambroit::{Block, Description, Form, Reading};
 //! # fn main() -> Result<(), Box<dyn std::error::Error>> {
 //! let mut rule = Description::compile("<M> ::= <A : bit (3)> 0 <B : bit (4)> ;", "M", Reading::Received)?;
 //! assert_eq!(rule.show(Block::whole(&[0xA5]), Form::Text)?, "[<A>=3'5 . <B>=4'5]");
+//! let values: Vec<_> = rule.events(Block::whole(&[0xA5]))?.leaves().map(|leaf| leaf.value).collect();
+//! assert_eq!(values, [Some(5), Some(0), Some(5)]);
 //! assert_eq!(rule.write("[<A>=3'5 . <B>=4'5]", Form::Text)?, (vec![0xA5], 8));
 //! # Ok(())
 //! # }
@@ -12,12 +15,14 @@
 //!
 //! The calls are those of `bindings/c/csn.h`, which says what is proved of each. They take `&mut self`, so that one call at a
 //! time uses a rule, as that header wants.
+mod event;
 mod fault;
 mod raw;
 
+pub use event::{Event, Events, Kind, Role};
 pub use fault::{BlockFault, CompileFault, Misfit, TreeFault};
 
-use raw::{RawRule, RawWhy};
+use raw::{RawEvent, RawRule, RawWhy};
 
 /// The version of `csn.h` that this crate was made for.
 pub const VERSION: u32 = 1;
@@ -56,6 +61,7 @@ impl<'a> Block<'a> {
 pub struct Description {
     rule: RawRule,
     room: Vec<u8>,
+    told: Vec<RawEvent>,
 }
 
 // SAFETY: what the handle owns is plain data, which no other value shares.
@@ -79,6 +85,7 @@ impl Description {
         let mut made = Description {
             rule: RawRule::EMPTY,
             room: vec![0; 4096],
+            told: vec![RawEvent::default(); 256],
         };
         // SAFETY: the slices are borrowed for the call, the handle is empty, and nothing overlaps. So at each call below.
         let status = unsafe {
@@ -123,6 +130,40 @@ impl Description {
             )
         };
         block_result(status, number)
+    }
+
+    /// The events of a block, also of one that has no tree: then those before its place.
+    pub fn events(&mut self, block: Block<'_>) -> Result<Events<'_>, BlockFault> {
+        let (mut count, refused) = self.tell(block)?;
+        if count > self.told.len() {
+            self.told.resize(count, RawEvent::default());
+            (count, _) = self.tell(block)?;
+        }
+        Ok(Events::new(&self.told[..count], refused))
+    }
+
+    /// How many events a block has, of which the first stand in the room for them; and where it is refused, if it is.
+    fn tell(&mut self, block: Block<'_>) -> Result<(usize, Option<usize>), BlockFault> {
+        let Block { octets, bits } = block;
+        let (mut count, mut number) = (0, 0);
+        // SAFETY: as at `compile`.
+        let status = unsafe {
+            raw::csn_tell(
+                &mut self.rule,
+                octets.as_ptr(),
+                octets.len(),
+                bits,
+                self.told.as_mut_ptr(),
+                self.told.len(),
+                &mut count,
+                &mut number,
+            )
+        };
+        match block_result(status, number) {
+            Ok(()) => Ok((count, None)),
+            Err(BlockFault::Refused { place }) => Ok((count, Some(place))),
+            Err(fault) => Err(fault),
+        }
     }
 
     /// The tree of a block in a form.
@@ -177,12 +218,35 @@ impl Description {
         match status {
             0 => Ok((self.room[..number.div_ceil(8)].to_vec(), number)),
             7 => Err(TreeFault::TooLong),
-            9 => Err(TreeFault::NoBlock(Misfit::of(number))),
+            9 => Err(TreeFault::NoBlock {
+                why: Misfit::of(number),
+                path: self.misfit(tree, form),
+            }),
             11 => Err(TreeFault::NoText { place: number }),
             12 => Err(TreeFault::NoJson),
             13 => Err(TreeFault::NoTree),
             _ => Err(TreeFault::NoMemory),
         }
+    }
+
+    /// The path of the first misfit of a tree that has no block. It has at most 64 steps.
+    fn misfit(&mut self, tree: &[u8], form: Form) -> Vec<u32> {
+        let (mut path, mut count, mut number) = (vec![0; 64], 0, 0);
+        // SAFETY: as at `compile`.
+        unsafe {
+            raw::csn_misfit(
+                &mut self.rule,
+                tree.as_ptr(),
+                tree.len(),
+                form as u32,
+                path.as_mut_ptr(),
+                path.len(),
+                &mut count,
+                &mut number,
+            )
+        };
+        path.truncate(count);
+        path
     }
 
     /// How many nodes the rule has.

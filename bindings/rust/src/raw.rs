@@ -20,6 +20,18 @@ pub struct RawWhy {
     pub place: u32,
 }
 
+#[repr(C)]
+#[derive(Clone, Copy, Default)]
+pub struct RawEvent {
+    pub node: u32,
+    pub kind: u32,
+    pub role: u32,
+    pub number: u32,
+    pub place: u32,
+    pub bits: u32,
+    pub value: u64,
+}
+
 extern "C" {
     pub fn csn_version() -> u32;
     pub fn csn_compile(
@@ -39,6 +51,16 @@ extern "C" {
         bits: u32,
         number: *mut usize,
     ) -> u32;
+    pub fn csn_tell(
+        rule: *mut RawRule,
+        octets: *const u8,
+        octets_len: usize,
+        bits: u32,
+        out: *mut RawEvent,
+        out_len: usize,
+        count: *mut usize,
+        number: *mut usize,
+    ) -> u32;
     pub fn csn_show(
         rule: *mut RawRule,
         octets: *const u8,
@@ -56,6 +78,16 @@ extern "C" {
         form: u32,
         out: *mut u8,
         out_len: usize,
+        number: *mut usize,
+    ) -> u32;
+    pub fn csn_misfit(
+        rule: *mut RawRule,
+        bytes: *const u8,
+        bytes_len: usize,
+        form: u32,
+        out: *mut u32,
+        out_len: usize,
+        count: *mut usize,
         number: *mut usize,
     ) -> u32;
     pub fn csn_nodes(rule: *mut RawRule) -> u32;

@@ -1,4 +1,7 @@
-use nambroit::{Block, BlockFault, CompileFault, Description, Form, Misfit, Reading, TreeFault};
+use nambroit::{
+    Block, BlockFault, CompileFault, Description, Event, Form, Kind, Misfit, Reading, Role,
+    TreeFault,
+};
 
 const TEXT: &str = "<M> ::= <A : bit (3)> 0 <B : bit (4)> ;";
 const SHOWN: &str = "[<A>=3'5 . <B>=4'5]";
@@ -40,6 +43,72 @@ fn blocks_are_shown_and_refused() {
     assert_eq!(rule.judge(long), Err(BlockFault::NoBlock));
 }
 
+const A: Event = Event {
+    node: 2,
+    kind: Kind::Field,
+    role: Role::Part,
+    place: 0,
+    bits: 3,
+    value: Some(5),
+};
+
+#[test]
+fn leaves_are_told() {
+    let mut rule = rule();
+    let told = rule.events(Block::whole(&[0xA5])).unwrap();
+    assert_eq!((told.refused(), told.len()), (None, 9));
+    let zero = Event {
+        node: 3,
+        kind: Kind::Literal,
+        place: 3,
+        bits: 1,
+        value: Some(0),
+        ..A
+    };
+    let b = Event {
+        node: 5,
+        place: 4,
+        bits: 4,
+        ..A
+    };
+    assert_eq!(told.leaves().collect::<Vec<_>>(), [A, zero, b]);
+}
+
+#[test]
+fn turns_and_alternatives_are_told() {
+    let mut rule = compile("<M> ::= { 1 <A : bit> | 0 } ** ;", "M").unwrap();
+    let short = Block {
+        octets: &[0xD0],
+        bits: 5,
+    };
+    let roles = rule.events(short).unwrap().filter_map(|it| match it.role {
+        Role::Turn(number) | Role::Alternative(number) if it.kind != Kind::End => {
+            Some((it.place, number))
+        }
+        _ => None,
+    });
+    let wanted = [(0, 0), (0, 0), (2, 1), (2, 1), (3, 2), (3, 0)];
+    assert_eq!(roles.collect::<Vec<_>>(), wanted);
+}
+
+#[test]
+fn events_before_a_refusal_are_told() {
+    let mut rule = rule();
+    let told = rule.events(Block::whole(&[0xB5])).unwrap();
+    assert_eq!((told.refused(), told.len()), (Some(3), 4));
+    assert_eq!(told.leaves().collect::<Vec<_>>(), [A]);
+}
+
+#[test]
+fn many_events_have_room() {
+    let mut rule = compile("<M> ::= { 1 <ITEM : bit (7)> } ** ;", "M").unwrap();
+    let octets = vec![0xA5; 5000];
+    let told = rule.events(Block::whole(&octets)).unwrap();
+    let places: Vec<_> = told.leaves().map(|leaf| leaf.place).collect();
+    let wanted: Vec<_> = (0..5000).flat_map(|n| [8 * n, 8 * n + 1]).collect();
+    assert_eq!(places, wanted);
+}
+
 #[test]
 fn trees_are_written_or_told() {
     let mut rule = rule();
@@ -50,7 +119,11 @@ fn trees_are_written_or_told() {
     assert_eq!(rule.write(SHOWN, Form::Text), Ok((vec![0xA5], 8)));
     assert_eq!(rule.write(json, Form::Json), Ok((vec![0xA5], 8)));
     let wide = rule.write("[<A>=3'5 . <B>=5'5]", Form::Text);
-    assert_eq!(wide, Err(TreeFault::NoBlock(Misfit::WrongWidth)));
+    let misfit = TreeFault::NoBlock {
+        why: Misfit::WrongWidth,
+        path: vec![2, 0],
+    };
+    assert_eq!(wide, Err(misfit));
     assert_eq!(
         rule.write("[<A>=3'5 . <B>=", Form::Text),
         Err(TreeFault::NoText { place: 15 })

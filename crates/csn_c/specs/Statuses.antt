@@ -1,7 +1,10 @@
 -- The statuses that calls answer, and the numbers that they tell. (This project's own choice.)
 use Rattle.std.specs.Prelude.{◌≡◌, ℕ, [], ◌∷◌, take, Result, Ok, Err}
+use Rattle.csn_bits.specs.declared.fault.NoMemory.{NoMemory}
 use Rattle.csn_resolve.specs.Why.{number_of}
 use Rattle.csn_certify.specs.declared.conflict.Conflict.{Conflict}
+use Rattle.csn_fields.specs.declared.refusal.Ended.{Ended}
+use Rattle.csn_fields.specs.declared.refusal.Ended.TheVariants.{Whole, Refused}
 use Rattle.csn_judge.specs.declared.verdict.Judged.{Judged}
 use Rattle.csn_judge.specs.declared.verdict.Judged.TheVariants as judged
 use Rattle.csn_movetext.specs.declared.fault.BlockFault.{BlockFault}
@@ -11,6 +14,7 @@ use Rattle.csn_encode.specs.declared.misfit.MisfitWhy.TheVariants.{WrongKind, Wr
 use Rattle.csn_encode.specs.declared.misfit.MisfitWhy.TheVariants.{WrongSpare, NoSuchAlternative, WindowLength}
 use Rattle.csn_encode.specs.declared.misfit.MisfitWhy.TheVariants.{TooManyBits}
 use Rattle.csn_plan.specs.Compiled.{numbers_of}
+use Rattle.csn_rule.specs.declared.rule.Told.{Told}
 use Rattle.csn_rule.specs.declared.fault.NoRule.{NoRule}
 use Rattle.csn_rule.specs.declared.fault.NoRule.TheVariants as no_rule
 use Rattle.csn_rule.specs.declared.fault.NoBlock.{NoBlock}
@@ -42,6 +46,16 @@ abbrev pub IsShownStatus : Result ℕ BlockFault → ℕ → ℕ → ℕ → Typ
 IsShownStatus (Ok count) status old new = (status ≡ OK) × (new ≡ count)
 IsShownStatus (Err (block.Refused place)) status old new = (status ≡ REFUSED) × (new ≡ place)
 IsShownStatus (Err block.NoMemory) status old new = (status ≡ NO_MEMORY) × (new ≡ old)
+
+-- a block that has ended so
+abbrev pub IsEndedStatus : Ended → ℕ → ℕ → ℕ → Type 0
+IsEndedStatus Whole status old new = (status ≡ OK) × (new ≡ old)
+IsEndedStatus (Refused refusal) status old new = (status ≡ REFUSED) × (new ≡ refusal.place)
+
+-- a block whose events were told
+abbrev pub IsToldStatus : Result Told NoMemory → (status before count old new : ℕ) → Type 0
+IsToldStatus (Ok told) status before count old new = (count ≡ told.count) × IsEndedStatus told.ended status old new
+IsToldStatus (Err why) status before count old new = (status ≡ NO_MEMORY) × (count ≡ before) × (new ≡ old)
 
 -- the number of the reason for which a tree does not fit
 abbrev pub number_of_misfit : MisfitWhy → ℕ

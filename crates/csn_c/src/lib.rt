@@ -6,19 +6,23 @@ ghost use Rattle.std.specs.Prelude.{◌≡◌, ◌≢◌, ◌<◌, ◌≤◌, No
 ghost use Rattle.csn_rule.specs.Blocks.{block_in};
 ghost use Rattle.csn_rule.specs.Labels.{HasLabel};
 ghost use Rattle.csn_rule.specs.Refusals.{IsNoRule};
-ghost use Rattle.csn_c.specs.Answers.{Holds, IsRule, JudgesTo, LabelsTo, ShowsTo, TellsWhy, WritesTo};
+ghost use Rattle.csn_rule.specs.Shapes.{HasShape};
+ghost use Rattle.csn_c.specs.Answers.{Holds, IsRule, JudgesTo, LabelsTo, MissesTo, ShapesTo, ShowsTo};
+ghost use Rattle.csn_c.specs.Answers.{TellsPath, TellsTo, TellsWhy, WritesTo};
 ghost use Rattle.csn_c.specs.Numbers.{IsBlock, form_in, reading_in};
-ghost use Rattle.csn_c.specs.declared.status.TheConstants.{BAD_ARGUMENT, NO_LABEL, NO_RULE, OK, TOO_LONG};
+ghost use Rattle.csn_c.specs.declared.status.TheConstants.{BAD_ARGUMENT, NO_BLOCK, NO_LABEL, NO_NODE, NO_RULE, OK, REFUSED, TOO_LONG};
 
 mod numbers;
 mod status;
 
 use crate::numbers::{form_of, is_block, reading_of};
 use crate::status::{
-    BAD_ARGUMENT, NO_LABEL, NO_RULE, OK, TOO_LONG, Why, status_of_judged, status_of_no_rule,
-    status_of_shown, status_of_written,
+    BAD_ARGUMENT, NO_LABEL, NO_NODE, NO_RULE, OK, TOO_LONG, Why, status_of_judged,
+    status_of_no_rule, status_of_shown, status_of_told, status_of_written,
 };
-use csn_rule::{Handle, MOST_LINE, NoRule, Reading, Rule, copy_into};
+use csn_rule::{
+    FlatEvent, Handle, MOST_LINE, NoBlock, NoRule, NodeShape, Reading, Rule, copy_into, copy_path,
+};
 use std::alloc::Global;
 use std::boxed::Box;
 
@@ -108,6 +112,34 @@ pub extern "C" fn csn_judge(
     status_of_judged(judged, number)
 }
 
+/// Tells the events of a block.
+#[unsafe(no_mangle)]
+pub extern "C" fn csn_tell(
+    alloc: Global,
+    rule: &mut Handle,
+    octets: &[u8],
+    bits: u32,
+    out: &mut [FlatEvent],
+    count: &mut usize,
+    number: &mut usize,
+) -> u32
+    ensures held { rule.new.held ≡ rule.old.held }
+    ensures kept { result ≢ OK → result ≢ REFUSED → out.new ≡ out.old }
+    ensures bad { ¬ IsBlock octets.now bits → result ≡ BAD_ARGUMENT }
+    ensures tells { IsBlock octets.now bits → MatchOption rule.old.held (result ≡ NO_RULE)
+        (λ d. TellsTo d (block_in octets.now bits) out.old out.new result count.old count.new number.old number.new) }
+{
+    if !is_block(octets, bits) {
+        return BAD_ARGUMENT;
+    }
+    let Some(mut held) = rule.take(alloc) else {
+        return NO_RULE;
+    };
+    let told = held.tell(octets, bits, out);
+    rule.put(alloc, held);
+    status_of_told(told, count, number)
+}
+
 /// Shows the tree of a block as text, form 0, or as JSON, form 1.
 #[unsafe(no_mangle)]
 pub extern "C" fn csn_show(
@@ -171,6 +203,49 @@ pub extern "C" fn csn_write(
     status_of_written(written, number)
 }
 
+/// Tells where a tree first misses the rule, of which [`csn_write`] finds no block.
+#[unsafe(no_mangle)]
+pub extern "C" fn csn_misfit(
+    alloc: Global,
+    rule: &mut Handle,
+    bytes: &[u8],
+    form: u32,
+    out: &mut [u32],
+    count: &mut usize,
+    number: &mut usize,
+) -> u32
+    ensures held { rule.new.held ≡ rule.old.held }
+    ensures kept { result ≢ NO_BLOCK → out.new ≡ out.old }
+    ensures long { 16777216 < length bytes.now → MatchOption (form_in form) (result ≡ BAD_ARGUMENT) (λ f. result ≡ TOO_LONG) }
+    ensures misses { length bytes.now ≤ 16777216 → MatchOption (form_in form) (result ≡ BAD_ARGUMENT)
+        (λ f. MatchOption rule.old.held (result ≡ NO_RULE)
+        (λ d. MissesTo f d bytes.now out.old out.new result count.old count.new number.old number.new)) }
+{
+    let Some(form) = form_of(form) else {
+        return BAD_ARGUMENT;
+    };
+    if bytes.len() > MOST_LINE as usize {
+        return TOO_LONG;
+    }
+    let Some(held) = rule.take(alloc) else {
+        return NO_RULE;
+    };
+    let measured = held.measure(alloc, form, bytes);
+    rule.put(alloc, held);
+    tell_path(&measured, out, count);
+    status_of_written(measured, number)
+}
+
+/// Copies the path of a misfit, and counts its steps; where there is none, nothing.
+fn tell_path(measured: &Result<u32, NoBlock>, out: &mut [u32], count: &mut usize)
+    ensures { TellsPath measured.now out.old out.new count.old count.new }
+{
+    if let Err(NoBlock::Misfit(misfit)) = measured {
+        copy_path(&misfit.path, out);
+        *count = misfit.path.len() as usize;
+    }
+}
+
 /// How many nodes the rule has; none where the handle is empty.
 #[unsafe(no_mangle)]
 pub extern "C" fn csn_nodes(alloc: Global, rule: &mut Handle) -> u32
@@ -183,6 +258,50 @@ pub extern "C" fn csn_nodes(alloc: Global, rule: &mut Handle) -> u32
     let count = u32::from(held.len());
     rule.put(alloc, held);
     count
+}
+
+/// What a node is, counted from 0.
+#[unsafe(no_mangle)]
+pub extern "C" fn csn_node(
+    alloc: Global,
+    rule: &mut Handle,
+    node: u32,
+    shape: &mut NodeShape,
+) -> u32
+    ensures held { rule.new.held ≡ rule.old.held }
+    ensures kept { result ≢ OK → shape.new ≡ shape.old }
+    ensures shapes { MatchOption rule.old.held (result ≡ NO_RULE) (λ d. ShapesTo d node result shape.new) }
+{
+    let Some(held) = rule.take(alloc) else {
+        return NO_RULE;
+    };
+    let status = tell_shape(&held, node, shape);
+    rule.put(alloc, held);
+    status
+}
+
+/// Tells what a node is.
+fn tell_shape(rule: &Rule, node: u32, shape: &mut NodeShape) -> u32
+    ensures kept { result ≢ OK → shape.new ≡ shape.old }
+    ensures shapes { ShapesTo rule.now node result shape.new }
+{
+    let Some(found) = shape_of(rule, node) else {
+        return NO_NODE;
+    };
+    *shape = found;
+    OK
+}
+
+/// What a node is; none where there is no such node.
+fn shape_of(rule: &Rule, node: u32) -> Option<NodeShape>
+    ensures shape { IfSome result (HasShape rule.now node) }
+    ensures none { IfNone result (length rule.now.nodes ≤ node) }
+{
+    if node < u32::from(rule.len()) {
+        rule.shape(node as u16)
+    } else {
+        None
+    }
 }
 
 /// The label of a node, counted from 0.

@@ -1,9 +1,9 @@
 //! The statuses that calls answer, as `bindings/c/csn.h` names them.
 
 ghost use Rattle.std.specs.Prelude.{◌≡◌};
-ghost use Rattle.csn_c.specs.Statuses.{IsJudgedStatus, IsNoRuleStatus, IsShownStatus, IsWrittenStatus, TellsConflict, number_of_misfit};
+ghost use Rattle.csn_c.specs.Statuses.{IsEndedStatus, IsJudgedStatus, IsNoRuleStatus, IsShownStatus, IsToldStatus, IsWrittenStatus, TellsConflict, number_of_misfit};
 
-use csn_rule::{BlockFault, Conflict, Judged, MisfitWhy, NoBlock, NoRule};
+use csn_rule::{BlockFault, Conflict, Ended, Judged, MisfitWhy, NoBlock, NoMemory, NoRule, Told};
 
 /// What was asked for.
 pub const OK: u32 = 0;
@@ -46,6 +46,9 @@ pub const NO_JSON: u32 = 12;
 
 /// The JSON shows no tree.
 pub const NO_TREE: u32 = 13;
+
+/// There is no such node.
+pub const NO_NODE: u32 = 14;
 
 /// Why a rule is not compiled. `number` is that of the reason, or of the kind of conflict; `place` a byte of the text, from
 /// 0, or the node of the conflict.
@@ -133,6 +136,36 @@ pub(crate) fn status_of_shown(shown: Result<usize, BlockFault>, number: &mut usi
             REFUSED
         }
         Err(BlockFault::NoMemory) => NO_MEMORY,
+    }
+}
+
+/// The status of a block whose events were told, and how many they are; where it is refused, the number is its place.
+pub(crate) fn status_of_told(
+    told: Result<Told, NoMemory>,
+    count: &mut usize,
+    number: &mut usize,
+) -> u32
+    ensures { IsToldStatus told result count.old count.new number.old number.new }
+{
+    match told {
+        Ok(told) => {
+            *count = told.count;
+            status_of_ended(told.ended, number)
+        }
+        Err(NoMemory) => NO_MEMORY,
+    }
+}
+
+/// The status of a block that has ended so.
+fn status_of_ended(ended: Ended, number: &mut usize) -> u32
+    ensures { IsEndedStatus ended result number.old number.new }
+{
+    match ended {
+        Ended::Whole => OK,
+        Ended::Refused(refusal) => {
+            *number = refusal.place as usize;
+            REFUSED
+        }
     }
 }
 

@@ -1,4 +1,6 @@
 mod Handles
+mod Listed
 mod ReadTexts
 mod Results
 mod Shown
+mod Sends

@@ -18,6 +18,9 @@ pub struct Handle {
     pub ghost held: { Option DescV },
 }
 
+// What it owns does not tell on which thread it was made.
+unsafe impl Send for Handle {}
+
 impl Model for Handle {
     ghost use Rattle.csn_rule.specs.Handles.{handle_owns};
 

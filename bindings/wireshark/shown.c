@@ -1,0 +1,326 @@
+/* shown.c - see shown.h. The events of a block are walked, and what is open is kept as the path to the next leaf: labels
+ * and turns, which have an item each once a leaf is in them, and alternatives, which are told where they begin. */
+#include "shown.h"
+#include "fields.h"
+#include "text.h"
+
+enum {
+    MOST_NUMBER = 64, /* bits of a leaf that has a number */
+    MOST_PATH = 256,  /* steps to a leaf; a rule has at most 64 nodes inside each other, with two steps each */
+    FIRST_ROOM = 1024
+};
+
+typedef enum { LABEL, TURN, ALTERNATIVE } step_kind;
+
+typedef struct {
+    step_kind kind;
+    const rule_node *node; /* of a label */
+    guint32 number;        /* of a turn or an alternative */
+    gboolean is_told;      /* of an alternative, that a leaf was shown behind it */
+    proto_item *item;      /* of a label or a turn, once a leaf is in it */
+    proto_tree *tree;      /* its parts */
+    int first;             /* its first octet */
+} step;
+
+/* A block that is shown. */
+typedef struct {
+    const rule *by;
+    tvbuff_t *tvb;
+    const guint8 *octets;
+    proto_tree *tree;
+    wmem_allocator_t *pool;
+    step path[MOST_PATH];
+    int length;             /* of the path */
+    int begun[MOST_PATH];   /* how long it was before each open node */
+    int depth;              /* of open nodes */
+    int till;               /* how many octets there are up to the end of the last leaf */
+} shown;
+
+/* The events of the block that was read last. */
+static csn_event *events;
+static size_t room;
+
+void forget_events(void)
+{
+    g_free(events);
+    events = NULL;
+    room = 0;
+}
+
+/* ---- texts */
+
+/* The path, as csn_explain tells it. */
+static void add_path(text *to, const shown *it)
+{
+    for (int at = 0; at < it->length; at++) {
+        const step *one = &it->path[at];
+        if (one->kind == LABEL) {
+            text_add(to, at == 0 ? "" : ".");
+            text_add(to, one->node->label);
+            continue;
+        }
+        text_add_letter(to, one->kind == TURN ? '[' : '#');
+        text_add_number(to, one->number);
+        text_add(to, one->kind == TURN ? "]" : "");
+    }
+}
+
+/* The alternatives that were not told yet. */
+static void add_alternatives(text *to, const shown *it)
+{
+    for (int at = 0; at < it->length; at++) {
+        if (it->path[at].kind == ALTERNATIVE && !it->path[at].is_told) {
+            text_add(to, ", alternative ");
+            text_add_number(to, it->path[at].number);
+        }
+    }
+}
+
+static gboolean has_number(const csn_event *leaf)
+{
+    return leaf->bits > 0 && leaf->bits <= MOST_NUMBER;
+}
+
+/* The value of a leaf, with its label, or else its kind. */
+static void add_value(text *to, const shown *it, const csn_event *leaf, const char *label)
+{
+    text_add(to, label != NULL ? label : kind_titles[leaf->kind]);
+    text_add(to, ": ");
+    if (label == NULL || !has_number(leaf)) {
+        text_add_bits(to, it->octets, leaf->place, leaf->bits);
+        return;
+    }
+    text_add_number(to, leaf->value);
+    if (leaf->bits > 8) {
+        text_add(to, " (0x");
+        text_add_hex(to, leaf->value, (int)(leaf->bits + 3) / 4);
+        text_add(to, ")");
+    }
+}
+
+/* The bits of a leaf, as long as they are. */
+static const char *all_bits(const shown *it, const csn_event *leaf)
+{
+    char *bits = wmem_alloc(it->pool, leaf->bits + 1);
+    for (guint32 at = 0; at < leaf->bits; at++) {
+        guint32 place = leaf->place + at;
+        bits[at] = it->octets[place / 8] >> (7 - place % 8) & 1 ? '1' : '0';
+    }
+    bits[leaf->bits] = '\0';
+    return bits;
+}
+
+/* ---- items */
+
+/* The octet in which a bit is; the last one of the block for what is behind it. */
+static int octet_of(const shown *it, guint32 place)
+{
+    return MIN((int)(place / 8), (int)tvb_reported_length(it->tvb) - 1);
+}
+
+/* How many octets there are from one on to the end of the last leaf; one at least. */
+static int octets_from(const shown *it, int first)
+{
+    return MAX(it->till - first, 1);
+}
+
+/* Makes the item of a label or a turn, with the alternative that comes right behind it in the path. */
+static proto_item *make_item(shown *it, int at, proto_tree *around, int first)
+{
+    const step *one = &it->path[at];
+    step *chosen = at + 1 < it->length && it->path[at + 1].kind == ALTERNATIVE ? &it->path[at + 1] : NULL;
+    const label_fields *fields = one->kind == LABEL ? one->node->fields : NULL;
+    int length = octets_from(it, first);
+    proto_item *item = NULL;
+    text title;
+    text_begin(&title);
+    if (one->kind == LABEL) {
+        text_add(&title, one->node->label);
+    } else {
+        text_add(&title, "[");
+        text_add_number(&title, one->number);
+        text_add(&title, "]");
+    }
+    if (chosen != NULL) {
+        text_add(&title, ": alternative ");
+        text_add_number(&title, chosen->number);
+        chosen->is_told = TRUE;
+    }
+    if (chosen != NULL && fields != NULL && fields->number != -1)
+        item = proto_tree_add_uint64(around, fields->number, it->tvb, first, length, chosen->number);
+    else if (fields != NULL && fields->group != -1)
+        item = proto_tree_add_item(around, fields->group, it->tvb, first, length, ENC_NA);
+    else
+        proto_tree_add_subtree(around, it->tvb, first, length, nambroit_tree, &item, "");
+    proto_item_set_text(item, "%s", title.letters);
+    return item;
+}
+
+/* The tree of the part round a leaf, to which this much of the path leads. */
+static proto_tree *part_of(shown *it, int length, int first)
+{
+    proto_tree *around = it->tree;
+    for (int at = 0; at < length; at++) {
+        step *one = &it->path[at];
+        if (one->kind == ALTERNATIVE)
+            continue;
+        if (one->item == NULL) {
+            one->item = make_item(it, at, around, first);
+            one->tree = proto_item_add_subtree(one->item, nambroit_tree);
+            one->first = first;
+        }
+        around = one->tree;
+    }
+    return around;
+}
+
+/* Adds the item of a leaf, whose value is its number, or else its bits. */
+static proto_item *add_leaf(const shown *it, const csn_event *leaf, const label_fields *fields, proto_tree *around)
+{
+    int field = kind_fields[leaf->kind], first = octet_of(it, leaf->place), length = octets_from(it, first);
+    if (fields != NULL && has_number(leaf) && fields->number != -1)
+        return proto_tree_add_uint64(around, fields->number, it->tvb, first, length, leaf->value);
+    if (fields != NULL && !has_number(leaf) && fields->bits != -1)
+        field = fields->bits;
+    if (!proto_field_is_referenced(around, field))
+        return NULL;
+    return proto_tree_add_string(around, field, it->tvb, first, length, all_bits(it, leaf));
+}
+
+/* Shows a leaf, to whose part the path leads. */
+static void show_leaf(shown *it, const csn_event *leaf)
+{
+    const rule_node *before = leaf->node > 0 ? &it->by->nodes[leaf->node - 1] : NULL;
+    const char *label = before != NULL ? before->label : NULL;
+    it->till = (int)((leaf->place + leaf->bits + 7) / 8);
+    proto_tree *around = part_of(it, label != NULL ? it->length - 1 : it->length, octet_of(it, leaf->place));
+    proto_item *item = add_leaf(it, leaf, label != NULL ? before->fields : NULL, around);
+    if (item != NULL && PTREE_DATA(it->tree)->visible) {
+        text line;
+        text_begin(&line);
+        text_add_mask(&line, it->octets, leaf->place, leaf->bits);
+        add_value(&line, it, leaf, label);
+        add_alternatives(&line, it);
+        proto_item_set_text(item, "%s", line.letters);
+    }
+    for (int at = 0; at < it->length; at++)
+        it->path[at].is_told = TRUE;
+}
+
+/* ---- events */
+
+static void go_on(shown *it, step one)
+{
+    if (it->length < MOST_PATH)
+        it->path[it->length++] = one;
+}
+
+/* Goes to a node, by what it is of the node round it. */
+static void go_to(shown *it, const csn_event *event)
+{
+    if (event->role == CSN_ALTERNATIVE)
+        go_on(it, (step){.kind = ALTERNATIVE, .number = event->number});
+    else if (event->role == CSN_TURN)
+        go_on(it, (step){.kind = TURN, .number = event->number});
+}
+
+/* Goes back to where the path was so long. The items that were made get the octets up to the last leaf. */
+static void go_back(shown *it, int length)
+{
+    while (it->length > length) {
+        const step *one = &it->path[--it->length];
+        if (one->item != NULL)
+            proto_item_set_len(one->item, octets_from(it, one->first));
+    }
+}
+
+static void show_event(shown *it, const csn_event *event)
+{
+    if (event->kind == CSN_END) {
+        go_back(it, it->begun[--it->depth]);
+        return;
+    }
+    const rule_node *node = &it->by->nodes[event->node];
+    int length = it->length;
+    go_to(it, event);
+    if (event->kind != CSN_BEGIN) {
+        show_leaf(it, event);
+        go_back(it, length);
+        return;
+    }
+    it->begun[it->depth++] = length;
+    if (node->label != NULL)
+        go_on(it, (step){.kind = LABEL, .node = node});
+}
+
+/* Shows where the block is refused. */
+static void show_refusal(shown *it, packet_info *pinfo, guint32 place, guint32 bits)
+{
+    text line;
+    text_begin(&line);
+    if (place < bits)
+        text_add_mask(&line, it->octets, place, 1);
+    text_add(&line, "Refused at bit ");
+    text_add_number(&line, place);
+    text_add(&line, place < bits ? "" : ", where the block ends");
+    text_add(&line, it->length > 0 ? ", at " : "");
+    add_path(&line, it);
+    proto_item *item = proto_tree_add_uint(it->tree, refused_field, it->tvb, octet_of(it, place), 1, place);
+    proto_item_set_text(item, "%s", line.letters);
+    expert_add_info_format(pinfo, item, &refusal_expert, "Refused at bit %u", place);
+}
+
+/* Nothing of a block. Only as much of the path is ever looked at as it is long. */
+static void begin(shown *it, const rule *by, tvbuff_t *tvb, const guint8 *octets, wmem_allocator_t *pool,
+                  proto_tree *tree)
+{
+    it->by = by;
+    it->tvb = tvb;
+    it->octets = octets;
+    it->tree = tree;
+    it->pool = pool;
+    it->length = it->depth = it->till = 0;
+}
+
+/* The status of a block, all of whose events are kept then. */
+static guint32 read_block(rule *by, const guint8 *octets, guint32 length, size_t *count, size_t *place)
+{
+    guint32 status = csn_tell(&by->handle, octets, length, 8 * length, events, room, count, place);
+    if (*count <= room)
+        return status;
+    room = MAX(*count, FIRST_ROOM);
+    events = g_renew(csn_event, events, room);
+    return csn_tell(&by->handle, octets, length, 8 * length, events, room, count, place);
+}
+
+static const char *answer_to(const rule *by, wmem_allocator_t *pool, guint32 status, guint32 place, guint32 bits)
+{
+    if (status == CSN_OK)
+        return "ok";
+    if (status == CSN_REFUSED)
+        return wmem_strdup_printf(pool, "no %u %s", place, place < bits ? "bit" : "ended");
+    return by->fault != NULL ? by->fault : status == CSN_NO_MEMORY ? "no memory" : "no block";
+}
+
+proto_item *show_block(rule *by, tvbuff_t *tvb, packet_info *pinfo, proto_tree *tree)
+{
+    guint32 length = tvb_reported_length(tvb);
+    size_t count = 0, place = 0;
+    const guint8 *octets = tvb_get_ptr(tvb, 0, (gint)length);
+    guint32 status = by->fault != NULL ? CSN_NO_RULE : read_block(by, octets, length, &count, &place);
+    const char *answer = answer_to(by, pinfo->pool, status, (guint32)place, 8 * length);
+    proto_item *item = proto_tree_add_protocol_format(tree, nambroit_protocol, tvb, 0, (gint)length, "Nambroit, %s, %s",
+                                                      by->name, answer);
+    shown it;
+    begin(&it, by, tvb, octets, pinfo->pool, proto_item_add_subtree(item, nambroit_tree));
+    proto_item_set_generated(proto_tree_add_string(it.tree, rule_field, tvb, 0, (gint)length, by->name));
+    proto_item_set_generated(proto_tree_add_string(it.tree, answer_field, tvb, 0, (gint)length, answer));
+    for (size_t at = 0; at < count; at++)
+        show_event(&it, &events[at]);
+    if (status == CSN_REFUSED)
+        show_refusal(&it, pinfo, (guint32)place, 8 * length);
+    else if (status != CSN_OK)
+        expert_add_info_format(pinfo, item, &fault_expert, "Not read: %s", answer);
+    go_back(&it, 0);
+    return item;
+}
