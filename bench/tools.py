@@ -1,11 +1,14 @@
 #!/usr/bin/env python3
-"""Measures the tools for captures and for much data.
+"""Measures the tools for captures, the plugins for Wireshark, and runs side by side.
 
-usage: bench/tools.py [--bin PATH] [--megabytes N]
+usage: bench/tools.py [--bin PATH] [--companion PATH] [--archive PATH] [--megabytes N] [--times N]
 
-PATH is crates/csn_cli/out/csn_cli where it is left out. Prints how many frames a second tools/gsmtap.py answers on one
-processor, of a capture that tools/to_pcap.py makes of lines of all entries, and how long GNU parallel takes for N
-megabytes of lines, 50 where that is left out, by 1, 2 and 4 workers.
+The programs and the library are those that are built in crates where they are left out. Prints three tables, each of what
+is at hand:
+  - how many frames a second tools/gsmtap.py answers on one processor, of a capture that tools/to_pcap.py makes of lines of
+    all entries, by the time of the processor;
+  - how many microseconds of the processor each plugin adds to tshark for a block, the least of N times;
+  - how long GNU parallel takes for N megabytes of lines, 50 where that is left out, by 1, 2 and 4 workers.
 """
 from __future__ import annotations
 
@@ -21,7 +24,21 @@ import time
 from pathlib import Path
 
 ROOT = Path(__file__).resolve().parent.parent
+TOOLS = ROOT / "tools"
+sys.path.append(str(TOOLS / "tests"))
+
+from tried import Tried  # noqa: E402
+from tsharks import tsharks_of  # noqa: E402
+
 WORKERS = (1, 2, 4)
+PLUGIN_FRAMES = 20_000
+FIELDS = ["-T", "fields", "-e", "frame.number"]
+# What tshark is asked for: without a plugin, and with one.
+ASKED = {
+    "a line for each frame that a filter takes": (["-Y", "frame.number == 1"], ["-Y", "nambroit.rac == 256"]),
+    "fields of each frame": ([*FIELDS, "-e", "gsmtap.arfcn"], [*FIELDS, "-e", "nambroit.block.answer"]),
+    "the whole tree of each frame": (["-V"], ["-V"]),
+}
 
 
 def lines_of(octets: int) -> list[str]:
@@ -37,39 +54,84 @@ def lines_of(octets: int) -> list[str]:
     return lines
 
 
-def taken(words: list[str], given: str, to: str, processors: set[int]) -> tuple[float, float]:
+def taken(words: list[str], given: str, to: str, processors: set[int], **environment: str) -> tuple[float, float]:
     """The seconds of a command, and those of the processors that it used, with what it started."""
     with open(given, "rb") as source, open(to, "wb") as target:
         begun = time.monotonic()
-        ran = subprocess.Popen(words, stdin=source, stdout=target, preexec_fn=lambda: os.sched_setaffinity(0, processors))
-        _, _, used = os.wait4(ran.pid, 0)
+        ran = subprocess.Popen(words, stdin=source, stdout=target, stderr=subprocess.DEVNULL, env=os.environ | environment,
+                               preexec_fn=lambda: os.sched_setaffinity(0, processors))
+        _, status, used = os.wait4(ran.pid, 0)
+    if os.waitstatus_to_exitcode(status) not in (0, 1):
+        raise OSError(f"{words[0]} ended with status {os.waitstatus_to_exitcode(status)}")
     return time.monotonic() - begun, used.ru_utime + used.ru_stime
+
+
+def capture_of(lines: list[str], folder: str, name: str) -> str:
+    """A capture of lines."""
+    text, capture = f"{folder}/{name}", f"{folder}/{name}.pcap"
+    Path(text).write_text("".join(lines))
+    taken([sys.executable, str(TOOLS / "to_pcap.py")], text, capture, os.sched_getaffinity(0))
+    return capture
+
+
+def measure_answers(program: str, lines: list[str], folder: str, times: int) -> None:
+    capture = capture_of(lines, folder, "lines")
+    words = [sys.executable, str(TOOLS / "gsmtap.py"), "--bin", program, "--answer", "received", "-"]
+    processors = {min(os.sched_getaffinity(0))}
+    seconds, used = min((taken(words, capture, f"{folder}/out", processors) for _ in range(times)), key=lambda both: both[1])
+    print("| What | Seconds | Of the processor | A second of the processor |\n|---|---|---|---|")
+    print(f"| `gsmtap.py` with answers, {len(lines):,} frames, one processor | {seconds:.1f} | {used:.1f} |"
+          f" {len(lines) / used:,.0f} frames |\n")
+
+
+def measure_plugins(tried: Tried, lines: list[str], times: int) -> None:
+    """What a plugin adds to tshark for a block, without what it takes to start both."""
+    folder, processors = str(tried.folder), {min(os.sched_getaffinity(0))}
+    one, all_frames = (capture_of(lines[:many], folder, f"frames-{many}") for many in (1, PLUGIN_FRAMES))
+    plugins = tsharks_of(tried)
+
+    def microseconds(words: list[str], home: str, asked: list[str], program: str) -> float:
+        variables = {"HOME": home, "NAMBROIT_PROGRAM": program}
+        least = [min(taken([*words, "-r", capture, *asked], os.devnull, os.devnull, processors, **variables)[1]
+                     for _ in range(times)) for capture in (one, all_frames)]
+        return (least[1] - least[0]) / (PLUGIN_FRAMES - 1) * 1e6
+
+    print("| tshark is asked for | Alone, microseconds a frame |" + "".join(f" {tshark.name} adds |" for tshark in plugins))
+    print("|---|---|" + "---|" * len(plugins))
+    for what, (without, with_plugin) in ASKED.items():
+        alone = microseconds(["tshark"], folder, without, "")
+        added = [microseconds(tshark.words, str(tshark.folder), with_plugin, tshark.companion) - alone
+                 for tshark in plugins]
+        print(f"| {what} | {alone:.1f} |" + "".join(f" {one:.1f} |" for one in added), flush=True)
+    print()
+
+
+def measure_workers(program: str, lines: list[str], folder: str) -> None:
+    print("| What | Seconds | Of processors | A second |\n|---|---|---|---|")
+    for workers in WORKERS:
+        words = ["parallel", "-j", str(workers), "-k", "--pipepart", "-a", f"{folder}/lines", "--block", "2M", program, "replay",
+                 "received"]
+        seconds, used = taken(words, os.devnull, f"{folder}/out", os.sched_getaffinity(0))
+        print(f"| GNU parallel, {len(lines):,} lines, {workers} at a time | {seconds:.1f} | {used:.1f} |"
+              f" {len(lines) / seconds:,.0f} lines |")
 
 
 def main() -> int:
     parser = argparse.ArgumentParser(description=__doc__, formatter_class=argparse.RawDescriptionHelpFormatter)
-    parser.add_argument("--bin", metavar="PATH", default=str(ROOT / "crates/csn_cli/out/csn_cli"))
+    for name, built in (("bin", "csn_cli/out/csn_cli"), ("companion", "csn_explain/out/csn_explain"),
+                        ("archive", "csn_c/out/libcsn_c.a")):
+        parser.add_argument(f"--{name}", metavar="PATH", type=os.path.abspath, default=str(ROOT / "crates" / built))
     parser.add_argument("--megabytes", type=int, default=50)
+    parser.add_argument("--times", type=int, default=5)
     options = parser.parse_args()
-    program = str(Path(options.bin).resolve())
     lines = lines_of(options.megabytes * 1_000_000)
-    everywhere = os.sched_getaffinity(0)
-    print("| What | Seconds | Of processors | A second |\n|---|---|---|---|")
     with tempfile.TemporaryDirectory() as folder:
-        text, capture, out = f"{folder}/lines", f"{folder}/capture.pcap", f"{folder}/out"
-        Path(text).write_text("".join(lines))
-        taken([sys.executable, str(ROOT / "tools/to_pcap.py")], text, capture, everywhere)
-        words = [sys.executable, str(ROOT / "tools/gsmtap.py"), "--bin", program, "--answer", "received", "-"]
-        seconds, used = taken(words, capture, out, {min(everywhere)})
-        print(f"| `gsmtap.py` with answers, {len(lines):,} frames, one processor | {seconds:.1f} | {used:.1f} |"
-              f" {len(lines) / seconds:,.0f} frames |")
-        if not shutil.which("parallel"):
-            return 0
-        for workers in WORKERS:
-            words = ["parallel", "-j", str(workers), "-k", "--pipepart", "-a", text, "--block", "2M", program, "replay", "received"]
-            seconds, used = taken(words, os.devnull, out, everywhere)
-            print(f"| GNU parallel, {len(lines):,} lines, {workers} at a time | {seconds:.1f} | {used:.1f} |"
-                  f" {len(lines) / seconds:,.0f} lines |")
+        measure_answers(options.bin, lines, folder, options.times)
+        if shutil.which("tshark"):
+            companion, archive = (path if os.path.isfile(path) else "" for path in (options.companion, options.archive))
+            measure_plugins(Tried(options.bin, companion, archive, Path(folder), False), lines, options.times)
+        if shutil.which("parallel"):
+            measure_workers(options.bin, lines, folder)
     return 0
 
 

@@ -26,15 +26,16 @@ class Run:
 
     def answers(self, lines: list[str]) -> list[str]:
         """The answer to each line."""
-        text = "".join(line + "\n" for line in lines).encode()
+        text = ("\n".join(lines) + "\n").encode() if lines else b""
         self.given += len(text)
         giver = threading.Thread(target=self.give, args=(text,))
         giver.start()
-        told = [self.process.stdout.readline() for _ in lines]
+        readline = self.process.stdout.readline
+        told = [readline() for _ in lines]
         giver.join()
         if told and not told[-1].endswith(b"\n"):
             raise ProgramFault(f"{' '.join(self.words)} ended with status {self.process.wait()}")
-        return [answer[:-1].decode() for answer in told]
+        return b"".join(told).decode().split("\n")[:-1]
 
     def give(self, text: bytes) -> None:
         try:
@@ -94,10 +95,10 @@ class Answers:
         """The answer to each block."""
         told = [""] * len(blocks)
         places: dict[str, list[int]] = {}
-        for place, block in enumerate(blocks):
-            places.setdefault(block.job, []).append(place)
+        for place, (_, _, job, _) in enumerate(blocks):
+            places.setdefault(job, []).append(place)
         for job, some in places.items():
-            for place, answer in zip(some, self.of_job(job, [blocks[place].line for place in some])):
+            for place, answer in zip(some, self.of_job(job, [blocks[place][3] for place in some])):
                 told[place] = answer
         self.refused = self.refused or any(answer.startswith(("no ", "bad ")) for answer in told)
         return told

@@ -24,10 +24,8 @@ class CaptureFault(Exception):
     """What is wrong with a capture, in a line."""
 
 
-class Packet(NamedTuple):
-    link: int              # the link type of its interface
-    time: int | None       # nanoseconds since 1970, where the capture tells
-    octets: bytes
+# A packet: the link type of its interface; its time in nanoseconds since 1970, where the capture tells; and its octets.
+Packet = tuple[int, int | None, bytes]
 
 
 class Stream(Protocol):
@@ -116,16 +114,17 @@ class Pcap:
 
     def cut(self, buffer: bytearray) -> Cut:
         packets: list[Packet] = []
-        at = 0 if self.begun else 24
+        octets, link, unit = bytes(buffer), self.link, self.unit
+        at, last = 0 if self.begun else 24, len(octets) - 16
         self.begun = True
-        while at + 16 <= len(buffer):
-            seconds, fraction, length, _ = self.head.unpack_from(buffer, at)
+        while at <= last:
+            seconds, fraction, length, _ = self.head.unpack_from(octets, at)
             if length > MOST_PACKET:
                 return packets, f"no packet has {length} octets", at
             begin, end = at + 16, at + 16 + length
-            if end > len(buffer):
+            if end > len(octets):
                 break
-            packets.append(Packet(self.link, seconds * SECOND + fraction * self.unit, bytes(buffer[begin:end])))
+            packets.append((link, seconds * SECOND + fraction * unit, octets[begin:end]))
             at = end
         return packets, "", at
 
@@ -189,7 +188,7 @@ class Pcapng:
 def packet_of(link: int, time: int | None, octets: bytes, length: int) -> Packet:
     if length > len(octets):
         raise IndexError("the packet is longer than its block")
-    return Packet(link, time, octets[:length])
+    return link, time, octets[:length]
 
 
 def interface_in(order: str, body: bytes) -> Interface:

@@ -31,34 +31,32 @@ def blocks_of(stream: Stream) -> Iterator[list[Block]]:
     """The control blocks of a capture, in lists as they come."""
     frame = 0
     for packets in batches(stream):
-        found = []
-        for packet in packets:
-            frame += 1
-            block = block_in(frame, packet)
-            if block is not None:
-                found.append(block)
-        if found:
-            yield found
+        found = [block_in(number, packet) for number, packet in enumerate(packets, frame + 1)]
+        frame += len(packets)
+        blocks = [block for block in found if block is not None]
+        if blocks:
+            yield blocks
 
 
 def time_text(time: int | None) -> str:
-    return "-" if time is None else f"{time // SECOND}.{time % SECOND:09d}"
+    return "-" if time is None else "%d.%09d" % divmod(time, SECOND)
 
 
-def row(block: Block, last: str) -> str:
-    return f"{block.frame}\t{time_text(block.time)}\t{block.job}\t{last}\n"
+def rows(blocks: list[Block], told: list[str]) -> str:
+    """A row for each block, with what is told of it."""
+    return "".join([f"{frame}\t{time_text(time)}\t{job}\t{last}\n" for (frame, time, job, _), last in zip(blocks, told)])
 
 
 def rows_of(blocks: list[Block]) -> str:
-    return "".join([row(block, block.line) for block in blocks])
+    return rows(blocks, [line for _, _, _, line in blocks])
 
 
 def lines_of(job: str) -> Callable[[list[Block]], str]:
-    return lambda blocks: "".join([block.line + "\n" for block in blocks if block.job == job])
+    return lambda blocks: "".join([line + "\n" for _, _, of, line in blocks if of == job])
 
 
 def answered(answers: Answers) -> Callable[[list[Block]], str]:
-    return lambda blocks: "".join([row(block, answer) for block, answer in zip(blocks, answers.to(blocks))])
+    return lambda blocks: rows(blocks, answers.to(blocks))
 
 
 def print_all(stream: Stream, told: Callable[[list[Block]], str]) -> str:

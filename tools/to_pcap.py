@@ -62,7 +62,7 @@ def tap(where: Where, channel: int, is_uplink: bool, octets: bytes) -> bytes:
 
 def ip_of(payload: bytes) -> bytes:
     """A payload in UDP in IPv4, from and to 127.0.0.1."""
-    udp = struct.pack(">2s2sHH", PORT, PORT, 8 + len(payload), 0) + payload
+    udp = struct.pack(">HHHH", PORT, PORT, 8 + len(payload), 0) + payload
     head = struct.pack(">BBHHHBBH4s4s", 0x45, 0, 20 + len(udp), 0, 0, 64, 17, 0, b"\x7f\0\0\1", b"\x7f\0\0\1")
     total = sum(struct.unpack(">10H", head))
     total = (total & 0xFFFF) + (total >> 16)

@@ -63,8 +63,8 @@ def udp(payload: bytes, port: int = 4729) -> bytes:
     return struct.pack(">HHHH", 40000, port, 8 + len(payload), 0) + payload
 
 
-def ip4(payload: bytes) -> bytes:
-    datagram = udp(payload)
+def ip4(payload: bytes, port: int = 4729) -> bytes:
+    datagram = udp(payload, port)
     return struct.pack(">BBHHHBBH8x", 0x45, 0, 20 + len(datagram), 0, 0, 64, 17, 0) + datagram
 
 

@@ -13,19 +13,22 @@ EXAMPLES = ROOT / "docs/examples"
 
 @dataclass
 class Tried:
-    """How much was tried and how much is wrong, with the built program, a folder for files and the size of the test."""
+    """How much was tried and how much is wrong, with the built programs, a folder for files and the size of the test."""
 
     program: str
+    companion: str         # csn_explain, or nothing where it is not built
+    archive: str           # the library for C, or nothing
     folder: Path
     is_whole: bool
     many: int = 0
     wrong: int = 0
+    part: str = ""         # of the test, with which lines begin
 
     def same(self, what: str, got: object, wanted: object) -> None:
         self.many += 1
         if got != wanted:
             self.wrong += 1
-            print(f"{what}: {shown(got)} in place of {shown(wanted)}")
+            print(f"{self.part}{what}: {shown(got)} in place of {shown(wanted)}")
 
     def skip(self, what: str, why: str) -> None:
         print(f"skipped: {what}, since {why}")

@@ -29,8 +29,8 @@ def made_capture(link: str = "Ethernet", form: str = "pcap", order: str = "<", u
 
 
 def rows_read(octets: bytes) -> list[tuple[int, str, str, str]]:
-    return [(block.frame, gsmtap.time_text(block.time), block.job, block.line)
-            for some in gsmtap.blocks_of(io.BytesIO(octets)) for block in some]
+    return [(frame, gsmtap.time_text(time), job, line)
+            for some in gsmtap.blocks_of(io.BytesIO(octets)) for frame, time, job, line in some]
 
 
 def try_forms(tried: Tried) -> None:
@@ -57,7 +57,7 @@ def try_pieces(tried: Tried) -> None:
     for form in FORMS:
         octets = made_capture(form=form)
         for packed in octets, gzip.compress(octets):
-            told = [(block.frame, block.line) for some in gsmtap.blocks_of(Trickle(packed)) for block in some]
+            told = [(frame, line) for some in gsmtap.blocks_of(Trickle(packed)) for frame, _, _, line in some]
             tried.same(f"{form} in pieces of 7 octets", told, [(row[0], row[3]) for row in wanted_rows()])
 
 
@@ -134,7 +134,7 @@ def try_many_runs(tried: Tried) -> None:
         rows = []
         for some in gsmtap.blocks_of(io.BytesIO(made_capture())):
             for block in some:
-                rows.append(gsmtap.row(block, answers.to([block])[0])[:-1])
+                rows += gsmtap.rows([block], answers.to([block])).splitlines()
         rows += [f"{name} {count}" for name, count in answers.close().items()]
         tried.same(f"runs of {most_input} octets, {most_runs} at a time", rows, wanted)
 
