@@ -37,6 +37,8 @@ def main():
             run("show.py"),
             run("migrate.py"),
             run("tools.py"),
+            run("explain.py", "--speed"),
+            run("mistakes.py"),
             run("descriptions.py"),
             run("certify.py", catalogue.name, *beside),
             run("judge.py", catalogue.name, *beside),

@@ -1,5 +1,5 @@
 #!/usr/bin/env python3
-"""Times `certificate` and `verify` of a program, and prints the tables of docs/BENCH.md on certificates.
+"""Times `certificate` and `verify` of a program, and prints a table.
 
 usage: bench/certificates.py [--beside OTHER] [PROGRAM]
 

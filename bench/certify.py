@@ -1,5 +1,5 @@
 #!/usr/bin/env python3
-"""Times certifying, beside another program if there is one, and prints the tables of docs/BENCH.md.
+"""Times certifying, beside another program if there is one, and prints a table.
 
 usage: bench/certify.py CATALOGUE [--beside OTHER] [PROGRAM]
 

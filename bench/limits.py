@@ -216,15 +216,13 @@ def certificates():
 
 
 def repeats(program, folder):
-    """Small texts that stand for much more than their bytes, as `growth.py` has them; unjson takes more memory."""
+    """Small texts that stand for much more than their bytes, as `growth.py` has them."""
     for row in growth.rows(program, folder):
-        if row.command == "unjson":
-            continue
         files = ["F", "F"] if row.command == "compat" else ["F"]
         words = [row.command, *files, "M", "received"] + (["CERT"] if row.certificate else [])
         # A certificate is the one that is written without a bound of memory.
         text = row.answer or growth.certificate_of(program, folder, row.description)
-        status = {"unproved": 4, "no": 1}.get(text.split(" ", 1)[0], 0)
+        status = {"unproved": 4, "no": 1, "bad": 1}.get(text.split(" ", 1)[0], 0)
         yield Row(f"{row.command}, {row.title}", words, row.description, row.given, text.encode(), status,
                   certificate=row.certificate.encode())
 
