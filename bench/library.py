@@ -19,7 +19,7 @@ from pathlib import Path
 ROOT = Path(__file__).resolve().parent.parent
 C = ROOT / "bindings" / "c"
 ENTRIES = {"downlink": "Downlink Control Block", "uplink": "Uplink Control Block"}
-CALLS = ("judge", "tell", "show", "json", "write")
+CALLS = ("judge", "pieces", "tell", "show", "json", "write")
 COMMANDS = {"show": "show", "json": "json", "write": "write"}
 BLOCKS = 2000
 RUNS = 5
@@ -73,7 +73,14 @@ def by_python(catalogue, name, blocks, count):
     rule = nambroit.Description(catalogue.read_bytes(), name)
     given = [bytes.fromhex(block) for block in blocks]
     trees = [rule.show(octets) for octets in given]
-    calls = {"judge": (rule.judge, given), "tell": (rule.fields, given), "show": (rule.show, given),
+    stream = nambroit.Stream(catalogue.read_bytes(), name)
+
+    def in_pieces(octets):
+        stream.push(octets[:len(octets) // 2])
+        stream.push(octets[len(octets) // 2:])
+        stream.end()
+
+    calls = {"judge": (rule.judge, given), "pieces": (in_pieces, given), "tell": (rule.fields, given), "show": (rule.show, given),
              "json": (lambda octets: rule.show(octets, form="json"), given), "write": (rule.write, trees)}
 
     def turn(call, values):

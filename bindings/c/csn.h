@@ -41,6 +41,11 @@ typedef struct csn_rule {
     void *at;
 } csn_rule;
 
+/* A handle of a block that comes in pieces: csn_stream stream = {0}; is an empty one. */
+typedef struct csn_stream {
+    void *at;
+} csn_stream;
+
 /* Why a rule is not compiled: the numbers that the program's lines tell (docs/ANSWERS.md). */
 typedef struct csn_why {
     uint32_t number;
@@ -192,6 +197,28 @@ uint32_t csn_node(csn_rule *rule, uint32_t node, csn_shape *shape);
 /* The label of a node, which are numbered from 0. It has *number bytes, of which the first out_len stand in out.
  * Proved: all of this; the handle holds what it held; and CSN_NO_LABEL where there is none, with out as it was. */
 uint32_t csn_label(csn_rule *rule, uint32_t node, uint8_t *out, size_t out_len, size_t *number);
+
+/* The calls for a block that comes in pieces. A stream holds the rule, and what is known of the bits so far; it takes no memory
+ * for them. The duties of a csn_rule are those of a csn_stream. */
+
+/* Gives the rule of a handle to a stream, and frees what the stream held. No bits have come.
+ * Proved: at CSN_OK the stream holds the rule, and the handle is empty. At any other status both hold what they held. */
+uint32_t csn_stream_open(csn_rule *rule, csn_stream *stream);
+
+/* Forgets the block, of which some bits may have come. Proved: no bits have come, and the stream holds its rule. */
+uint32_t csn_stream_begin(csn_stream *stream);
+
+/* The next bits of the block: the first `bits` of the octets.
+ * Proved: at CSN_OK all bits so far can be followed; at CSN_REFUSED *number of them, not one more, and further bits change
+ * nothing until the block ends. At CSN_TOO_LONG, where the bits would be more than CSN_MOST_BITS, and at any other status the
+ * stream holds what it held. */
+uint32_t csn_stream_push(csn_stream *stream, const uint8_t *octets, size_t octets_len, uint32_t bits, size_t *number);
+
+/* The block has ended. Proved: it is judged as csn_judge judges all its bits at once; no bits have come then of the next. */
+uint32_t csn_stream_end(csn_stream *stream, size_t *number);
+
+/* Proved: the stream is empty. Tested: what it held is freed. */
+void csn_stream_free(csn_stream *stream);
 
 /* What the library asks of its host: a block of n bytes (of a, where n is 0). ok says whether there is one, and p is not null
  * in either case. So a host sets its own budget, arena or faults here. */

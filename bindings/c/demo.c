@@ -61,6 +61,22 @@ static void misfit(csn_rule *rule, const char *tree)
     putchar('\n');
 }
 
+/* The rule of the handle goes to a stream, to which a block comes in two pieces. */
+static void push(csn_rule *rule, uint8_t octet)
+{
+    csn_stream stream = {0};
+    size_t number = 0;
+    uint8_t last = (uint8_t)(octet << 3);
+    printf("open: status %u\n", csn_stream_open(rule, &stream));
+    uint32_t status = csn_stream_push(&stream, &octet, 1, 3, &number);
+    printf("push: status %u, number %zu\n", status, number);
+    status = csn_stream_push(&stream, &last, 1, 5, &number);
+    printf("push: status %u, number %zu\n", status, number);
+    status = csn_stream_end(&stream, &number);
+    printf("end: status %u, number %zu\n", status, number);
+    csn_stream_free(&stream);
+}
+
 static void nodes(csn_rule *rule)
 {
     csn_shape shape = {0, 0};
@@ -102,6 +118,9 @@ int main(void)
     misfit(&rule, "[<A>=3'5 . <B>=5'5]");
     labels(&rule);
     nodes(&rule);
+    push(&rule, 0xA5);
+    compile(TEXT, "M", &rule);
+    push(&rule, 0xB5);
     csn_free(&rule);
     csn_free(&rule);
     show(&rule, 0xA5, CSN_TEXT);

@@ -127,7 +127,24 @@ static void tell(csn_rule *rule, size_t length, uint32_t bits, uint32_t shown, s
     tell_again(rule, length, bits, count);
 }
 
-static void show(csn_rule *rule, uint32_t form)
+/* A block in three pieces comes to the same. */
+static void push_pieces(csn_stream *stream, uint32_t bits, uint32_t shown, size_t place)
+{
+    size_t number = 0, at = 0;
+    uint32_t piece = bits / 3 / 8 * 8, status = CSN_OK;
+    for (int i = 0; i < 3; i++, at += piece / 8) {
+        uint32_t some = i < 2 ? piece : bits - 2 * piece;
+        status = csn_stream_push(stream, octets + at, (some + 7) / 8, some, &number);
+        if (status != CSN_OK && (status != CSN_REFUSED || shown != CSN_REFUSED || number != place))
+            odd("place of a piece", number, place);
+    }
+    number = 0;
+    status = csn_stream_end(stream, &number);
+    if (status != shown || (status == CSN_REFUSED && number != place))
+        odd("status of pieces", status, shown);
+}
+
+static void show(csn_rule *rule, csn_stream *stream, uint32_t form)
 {
     size_t length, number = 0, place = 0;
     uint32_t bits = read_block(line, &length);
@@ -136,6 +153,7 @@ static void show(csn_rule *rule, uint32_t form)
     if (judged != status || (status == CSN_REFUSED && place != number))
         odd("status of a judge", judged, status);
     tell(rule, length, bits, status, number);
+    push_pieces(stream, bits, status, number);
     if (status == CSN_OK) {
         printf("ok %.*s\n", (int)number, (const char *)out);
         show_again(rule, length, bits, form, number);
@@ -202,11 +220,16 @@ static int refuse(uint32_t status, const csn_why *why)
 int main(int count, char **words)
 {
     csn_rule rule = {0};
+    csn_stream stream = {0};
     csn_why why = {0, 0};
     if (count != 5)
         return 2;
     bytes text = read_file(words[2]);
     uint32_t status = compile_file(&text, words[3], words[4], &rule, &why);
+    if (status == CSN_OK)
+        status = csn_stream_open(&rule, &stream);
+    if (status == CSN_OK)
+        status = compile_file(&text, words[3], words[4], &rule, &why);
     free(text.at);
     if (status != CSN_OK)
         return refuse(status, &why);
@@ -216,10 +239,11 @@ int main(int count, char **words)
         if (line[0] == '\n')
             continue;
         if (shows)
-            show(&rule, is_json ? CSN_JSON : CSN_TEXT);
+            show(&rule, &stream, is_json ? CSN_JSON : CSN_TEXT);
         else
             write_tree(&rule, is_json ? CSN_JSON : CSN_TEXT);
     }
     csn_free(&rule);
+    csn_stream_free(&stream);
     return odd_count != 0;
 }

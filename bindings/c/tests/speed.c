@@ -22,6 +22,7 @@ static struct {
 
 static size_t block_count = 0;
 static csn_rule rule = {0};
+static csn_stream stream = {0};
 static uint8_t out[MOST_TEXT];
 static csn_event events[MOST_EVENTS];
 
@@ -43,6 +44,15 @@ static uint32_t tells(size_t i)
     size_t count, number;
     return csn_tell(&rule, blocks[i].octets, blocks[i].length, 8 * (uint32_t)blocks[i].length, events, MOST_EVENTS, &count,
                     &number);
+}
+
+/* The block in two pieces. */
+static uint32_t pushes(size_t i)
+{
+    size_t number, half = blocks[i].length / 2, rest = blocks[i].length - half;
+    csn_stream_push(&stream, blocks[i].octets, half, 8 * (uint32_t)half, &number);
+    csn_stream_push(&stream, blocks[i].octets + half, rest, 8 * (uint32_t)rest, &number);
+    return csn_stream_end(&stream, &number);
 }
 
 static uint32_t shows(size_t i)
@@ -97,7 +107,8 @@ int main(int count, char **words)
         return 2;
     bytes text = read_file(words[1]);
     size_t many = (size_t)atol(words[4]);
-    if (compile_file(&text, words[2], words[3], &rule, &why) != CSN_OK)
+    if (compile_file(&text, words[2], words[3], &rule, &why) != CSN_OK || csn_stream_open(&rule, &stream) != CSN_OK
+        || compile_file(&text, words[2], words[3], &rule, &why) != CSN_OK)
         return 2;
     for (; read_block(); block_count++) {
         if (shows(block_count) != CSN_OK)
@@ -108,11 +119,13 @@ int main(int count, char **words)
     if (block_count == 0)
         return 2;
     time_of("judge", judges, many);
+    time_of("pieces", pushes, many);
     time_of("tell", tells, many);
     time_of("show", shows, many);
     time_of("json", shows_json, many);
     time_of("write", writes, many);
     csn_free(&rule);
+    csn_stream_free(&stream);
     free(text.at);
     return odd_count != 0;
 }

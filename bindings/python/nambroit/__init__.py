@@ -22,7 +22,7 @@ from pathlib import Path
 from typing import NamedTuple
 
 __all__ = ["Block", "Conflict", "Description", "Event", "Fault", "Field", "NoBlock", "NoTree", "Refused", "RuleRefused",
-           "SyntaxRefused", "TooLong"]
+           "Stream", "SyntaxRefused", "TooLong"]
 
 VERSION = 1
 READINGS = {"received": 0, "sent": 1}
@@ -97,7 +97,7 @@ class Conflict(Fault):
 
 
 class TooLong(Fault):
-    """A description of more than 262,144 bytes, or a tree of more than 16,777,216."""
+    """A description of more than 262,144 bytes, a tree of more than 16,777,216, or a block in pieces of more than 524,288 bits."""
 
 
 class Refused(Fault):
@@ -131,6 +131,10 @@ class _Rule(ctypes.Structure):
     _fields_ = [("at", ctypes.c_void_p)]
 
 
+class _Stream(ctypes.Structure):
+    _fields_ = [("at", ctypes.c_void_p)]
+
+
 class _Why(ctypes.Structure):
     _fields_ = [("number", ctypes.c_uint32), ("place", ctypes.c_uint32)]
 
@@ -145,6 +149,7 @@ def _load() -> ctypes.CDLL:
     library = ctypes.CDLL(os.environ.get("NAMBROIT_LIBRARY") or str(Path(__file__).with_name("libcsn.so")))
     u32, size, chars = ctypes.c_uint32, ctypes.c_size_t, ctypes.c_char_p
     rule, number, room = ctypes.POINTER(_Rule), ctypes.POINTER(size), ctypes.c_void_p
+    stream = ctypes.POINTER(_Stream)
     calls = {
         "csn_version": [],
         "csn_compile": [chars, size, chars, size, u32, rule, ctypes.POINTER(_Why)],
@@ -156,6 +161,11 @@ def _load() -> ctypes.CDLL:
         "csn_misfit": [rule, chars, size, u32, room, size, number, number],
         "csn_nodes": [rule],
         "csn_label": [rule, u32, room, size, number],
+        "csn_stream_open": [rule, stream],
+        "csn_stream_begin": [stream],
+        "csn_stream_push": [stream, chars, size, u32, number],
+        "csn_stream_end": [stream, number],
+        "csn_stream_free": [stream],
     }
     for name, arguments in calls.items():
         call = getattr(library, name)
@@ -298,6 +308,40 @@ class Description:
         if status == REFUSED:
             raise Refused(self._number.value, self._number.value == bits)
         _raise_other(status)
+
+
+class Stream:
+    """Judges blocks of a rule that come in pieces: `push` and `end` refuse a block by a `Refused`, and after `end` the next one
+    begins. Several threads may use it: one call waits for another."""
+
+    def __init__(self, text: str | bytes, name: str | bytes, reading: str = "received"):
+        self._lock, self._stream, self._number, self._bits = threading.Lock(), _Stream(), ctypes.c_size_t(), 0
+        rule = Description(text, name, reading)
+        _raise_other(_library.csn_stream_open(rule._rule, self._stream))
+
+    def __del__(self):
+        if hasattr(self, "_stream"):
+            _library.csn_stream_free(self._stream)
+
+    def push(self, octets: bytes, bits: int | None = None) -> None:
+        """The next bits of the block: the first `bits` of the octets."""
+        octets, bits = bytes(octets), 8 * len(octets) if bits is None else bits
+        with self._lock:
+            status = _library.csn_stream_push(self._stream, octets, len(octets), bits, self._number)
+            if status in (OK, REFUSED):
+                self._bits += bits
+            if status == REFUSED:
+                raise Refused(self._number.value, False)
+            _raise_other(status)
+
+    def end(self) -> None:
+        """The block has ended."""
+        with self._lock:
+            status = _library.csn_stream_end(self._stream, self._number)
+            bits, self._bits = self._bits, 0
+            if status == REFUSED:
+                raise Refused(self._number.value, self._number.value == bits)
+            _raise_other(status)
 
 
 def _raise_other(status: int, fine: int = OK) -> None:

@@ -12,7 +12,7 @@ sys.dont_write_bytecode = True
 sys.path.insert(0, str(Path(__file__).resolve().parent.parent))
 
 import nambroit  # noqa: E402
-from nambroit import Block, Description, Event, Field  # noqa: E402
+from nambroit import Block, Description, Event, Field, Stream  # noqa: E402
 
 TEXT = "<M> ::= <A : bit (3)> 0 <B : bit (4)> ;"
 SHOWN = "[<A>=3'5 . <B>=4'5]"
@@ -80,6 +80,35 @@ class Calls(unittest.TestCase):
             with self.assertRaises(nambroit.NoTree) as caught:
                 self.rule.write(bytes_, "json")
             self.assertEqual(caught.exception.is_json, is_json)
+
+    def test_blocks_come_in_pieces(self):
+        stream = Stream(TEXT, "M")
+        for _ in range(2):
+            stream.push(b"\xa0", 3)
+            stream.push(b"", 0)
+            stream.push(b"\x28", 5)
+            stream.end()
+        stream.push(b"\xa0", 3)
+        with self.assertRaises(nambroit.Refused) as caught:
+            stream.push(b"\xb0", 4)
+        self.assertEqual((caught.exception.place, caught.exception.ended), (3, False))
+        with self.assertRaises(nambroit.Refused):
+            stream.push(b"\x00")
+        with self.assertRaises(nambroit.Refused) as caught:
+            stream.end()
+        self.assertEqual((caught.exception.place, caught.exception.ended), (3, False))
+        stream.push(b"\xa0", 7)
+        with self.assertRaises(nambroit.Refused) as caught:
+            stream.end()
+        self.assertEqual((caught.exception.place, caught.exception.ended), (7, True))
+
+    def test_streams_have_a_limit(self):
+        stream = Stream("<M> ::= <A : octet> ** ;", "M")
+        for _ in range(8):
+            stream.push(bytes(8192))
+        with self.assertRaises(nambroit.TooLong):
+            stream.push(b"\x00", 1)
+        stream.end()
 
     def test_labels_are_told(self):
         self.assertEqual(self.rule.labels(), {1: "A", 4: "B"})

@@ -3,7 +3,7 @@
 //! usage: speed FILE NAME READING COUNT < BLOCKS
 //!
 //! BLOCKS are lines of hexadecimal digits, whole octets, that the rule has. Prints a line for each call, with the best of five.
-use nambroit::{Block, Description, Form, Reading};
+use nambroit::{Block, Description, Form, Reading, Stream};
 use std::error::Error;
 use std::io::{stdin, BufRead};
 use std::time::Instant;
@@ -48,6 +48,14 @@ fn main() -> Result<(), Box<dyn Error>> {
     }
     time_of("judge", &blocks, count, |octets| {
         rule.judge(Block::whole(octets)).unwrap()
+    });
+    let other = Description::compile(std::fs::read(file)?, name, reading)?;
+    let mut stream = Stream::new(other)?;
+    time_of("pieces", &blocks, count, |octets| {
+        let (first, rest) = octets.split_at(octets.len() / 2);
+        stream.push(Block::whole(first)).unwrap();
+        stream.push(Block::whole(rest)).unwrap();
+        stream.end().unwrap();
     });
     time_of("tell", &blocks, count, |octets| {
         rule.events(Block::whole(octets)).unwrap();

@@ -18,9 +18,11 @@
 mod event;
 mod fault;
 mod raw;
+mod stream;
 
 pub use event::{Event, Events, Kind, Role};
 pub use fault::{BlockFault, CompileFault, Misfit, TreeFault};
+pub use stream::Stream;
 
 use raw::{RawEvent, RawRule, RawWhy};
 
@@ -249,6 +251,11 @@ impl Description {
         path
     }
 
+    /// The handle.
+    pub(crate) fn raw(&mut self) -> &mut RawRule {
+        &mut self.rule
+    }
+
     /// How many nodes the rule has.
     pub fn nodes(&mut self) -> u32 {
         // SAFETY: as at `compile`.
@@ -289,7 +296,7 @@ impl Description {
 fn block_result(status: u32, number: usize) -> Result<(), BlockFault> {
     match status {
         0 => Ok(()),
-        3 => Err(BlockFault::NoBlock),
+        3 | 7 => Err(BlockFault::NoBlock),
         8 => Err(BlockFault::Refused { place: number }),
         _ => Err(BlockFault::NoMemory),
     }

@@ -14,6 +14,17 @@ impl RawRule {
 }
 
 #[repr(C)]
+pub struct RawStream {
+    at: *mut c_void,
+}
+
+impl RawStream {
+    pub const EMPTY: RawStream = RawStream {
+        at: std::ptr::null_mut(),
+    };
+}
+
+#[repr(C)]
 #[derive(Default)]
 pub struct RawWhy {
     pub number: u32,
@@ -98,6 +109,17 @@ extern "C" {
         out_len: usize,
         number: *mut usize,
     ) -> u32;
+    pub fn csn_stream_open(rule: *mut RawRule, stream: *mut RawStream) -> u32;
+    pub fn csn_stream_begin(stream: *mut RawStream) -> u32;
+    pub fn csn_stream_push(
+        stream: *mut RawStream,
+        octets: *const u8,
+        octets_len: usize,
+        bits: u32,
+        number: *mut usize,
+    ) -> u32;
+    pub fn csn_stream_end(stream: *mut RawStream, number: *mut usize) -> u32;
+    pub fn csn_stream_free(stream: *mut RawStream);
 
     fn malloc(size: usize) -> *mut c_void;
     fn realloc(at: *mut c_void, size: usize) -> *mut c_void;

@@ -1,5 +1,5 @@
 use nambroit::{
-    Block, BlockFault, CompileFault, Description, Event, Form, Kind, Misfit, Reading, Role,
+    Block, BlockFault, CompileFault, Description, Event, Form, Kind, Misfit, Reading, Role, Stream,
     TreeFault,
 };
 
@@ -130,6 +130,26 @@ fn trees_are_written_or_told() {
     );
     assert_eq!(rule.write("{", Form::Json), Err(TreeFault::NoJson));
     assert_eq!(rule.write("{}", Form::Json), Err(TreeFault::NoTree));
+}
+
+#[test]
+fn blocks_come_in_pieces() {
+    let mut stream = Stream::new(rule()).unwrap();
+    let piece = |octets, bits| Block { octets, bits };
+    for _ in 0..2 {
+        assert_eq!(stream.push(piece(&[0xA0], 3)), Ok(()));
+        assert_eq!(stream.push(piece(&[0x28], 5)), Ok(()));
+        assert_eq!(stream.end(), Ok(()));
+    }
+    assert_eq!(stream.push(piece(&[0xA0], 3)), Ok(()));
+    let refused = Err(BlockFault::Refused { place: 3 });
+    assert_eq!(stream.push(piece(&[0x80], 1)), refused);
+    assert_eq!(stream.push(piece(&[0x00], 8)), refused);
+    assert_eq!(stream.end(), refused);
+    assert_eq!(stream.push(piece(&[0xB5], 4)), refused);
+    stream.begin();
+    assert_eq!(stream.push(piece(&[0xA5], 7)), Ok(()));
+    assert_eq!(stream.end(), Err(BlockFault::Refused { place: 7 }));
 }
 
 #[test]

@@ -7,6 +7,8 @@ use Rattle.csn_fields.specs.declared.refusal.Ended.{Ended}
 use Rattle.csn_fields.specs.declared.refusal.Ended.TheVariants.{Whole, Refused}
 use Rattle.csn_judge.specs.declared.verdict.Judged.{Judged}
 use Rattle.csn_judge.specs.declared.verdict.Judged.TheVariants as judged
+use Rattle.csn_judge.specs.declared.verdict.Verdict.{Verdict}
+use Rattle.csn_judge.specs.declared.verdict.Verdict.TheVariants as verdict
 use Rattle.csn_movetext.specs.declared.fault.BlockFault.{BlockFault}
 use Rattle.csn_movetext.specs.declared.fault.BlockFault.TheVariants as block
 use Rattle.csn_encode.specs.declared.misfit.MisfitWhy.{MisfitWhy}
@@ -40,6 +42,11 @@ IsNoRuleStatus no_rule.NoMemory status old new = (status ≡ NO_MEMORY) × (new 
 abbrev pub IsJudgedStatus : Judged → ℕ → ℕ → ℕ → Type 0
 IsJudgedStatus judged.Ok status old new = (status ≡ OK) × (new ≡ old)
 IsJudgedStatus (judged.Refused place) status old new = (status ≡ REFUSED) × (new ≡ place)
+
+-- bits of a block so far
+abbrev pub IsVerdictStatus : Verdict → ℕ → ℕ → ℕ → Type 0
+IsVerdictStatus verdict.Going status old new = (status ≡ OK) × (new ≡ old)
+IsVerdictStatus (verdict.Refused place) status old new = (status ≡ REFUSED) × (new ≡ place)
 
 -- a block that was shown
 abbrev pub IsShownStatus : Result ℕ BlockFault → ℕ → ℕ → ℕ → Type 0

@@ -14,6 +14,7 @@ ghost use Rattle.csn_c.specs.declared.status.TheConstants.{BAD_ARGUMENT, NO_BLOC
 
 mod numbers;
 mod status;
+mod stream;
 
 use crate::numbers::{form_of, is_block, reading_of};
 use crate::status::{

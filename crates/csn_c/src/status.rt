@@ -1,9 +1,11 @@
 //! The statuses that calls answer, as `bindings/c/csn.h` names them.
 
 ghost use Rattle.std.specs.Prelude.{◌≡◌};
-ghost use Rattle.csn_c.specs.Statuses.{IsEndedStatus, IsJudgedStatus, IsNoRuleStatus, IsShownStatus, IsToldStatus, IsWrittenStatus, TellsConflict, number_of_misfit};
+ghost use Rattle.csn_c.specs.Statuses.{IsEndedStatus, IsJudgedStatus, IsNoRuleStatus, IsShownStatus, IsToldStatus, IsVerdictStatus, IsWrittenStatus, TellsConflict, number_of_misfit};
 
-use csn_rule::{BlockFault, Conflict, Ended, Judged, MisfitWhy, NoBlock, NoMemory, NoRule, Told};
+use csn_rule::{
+    BlockFault, Conflict, Ended, Judged, MisfitWhy, NoBlock, NoMemory, NoRule, Told, Verdict,
+};
 
 /// What was asked for.
 pub const OK: u32 = 0;
@@ -116,6 +118,19 @@ pub(crate) fn status_of_judged(judged: Judged, number: &mut usize) -> u32
     match judged {
         Judged::Ok => OK,
         Judged::Refused { place } => {
+            *number = place as usize;
+            REFUSED
+        }
+    }
+}
+
+/// The status of bits of a block so far; where they are refused, the number is their place.
+pub(crate) fn status_of_verdict(verdict: Verdict, number: &mut usize) -> u32
+    ensures { IsVerdictStatus verdict result number.old number.new }
+{
+    match verdict {
+        Verdict::Going => OK,
+        Verdict::Refused { place } => {
             *number = place as usize;
             REFUSED
         }

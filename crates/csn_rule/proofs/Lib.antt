@@ -4,3 +4,5 @@ mod ReadTexts
 mod Results
 mod Shown
 mod Sends
+mod StreamHandles
+mod Streams

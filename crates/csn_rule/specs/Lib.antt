@@ -5,3 +5,5 @@ pub mod Handles
 pub mod Labels
 pub mod Refusals
 pub mod Shapes
+pub mod Streams
+pub mod StreamHandles
