@@ -4,6 +4,7 @@ pub mod Octets
 pub mod Gathering
 pub mod NumberFacts
 pub mod PoolFacts
+pub mod Labelled
 pub mod TrackFacts
 pub mod Followed
 pub mod TreesFit

@@ -1,8 +1,9 @@
 -- Openings that are made one after another.
-use Rattle.std.proofs.Common.{◌≡◌, ℕ, zero, suc, ◌+◌, ◌-◌, ◌<◌, List, [], ◌∷◌, ◌++◌, length, take, drop, map, ◌⊎◌}
+use Rattle.std.proofs.Common.{◌≡◌, ℕ, zero, suc, ◌+◌, ◌-◌, ◌<◌, ◌≤◌, List, [], ◌∷◌, ◌++◌, length, take, drop, map, ◌⊎◌}
 use Rattle.std.proofs.Common.{Option, Some, None, unwrap_or, get_or, refl, sym, ◌∙◌, subst, ap, arith, inl, inr}
-use Rattle.std.proofs.Common.{length-append, length-drop}
-use Rattle.std.specs.Prelude.{slice_get}
+use Rattle.std.proofs.Common.{length-append, length-drop, false, Bor}
+use Rattle.std.specs.Prelude.{slice_get, option_copied}
+use Rattle.std.specs.Option.{is_some}
 use Rattle.std.proofs.Math.Seq.{drop-append_seam, take-length}
 use Rattle.std.proofs.lemmas.Option.{slice_get_within, slice_get-get_or}
 use Rattle.std.proofs.lemmas.List.{take-append-le, drop-append-le}
@@ -14,27 +15,45 @@ use Rattle.csn_desc.specs.Formed.{IsDescription}
 use Rattle.csn_desc.proofs.Parents.{one_parent}
 use Rattle.csn_desc.proofs.Numbering.{span_inside, span_parts, part_from}
 use Rattle.csn_movetext.specs.declared.openings.Place.{Place}
-use Rattle.csn_movetext.specs.Pool.{bytes_at, IsWithin}
+use Rattle.csn_movetext.specs.Pool.{bytes_at, label_at, text_at, IsNumber, IsWithin}
+use Rattle.csn_movetext.specs.declared.template.Template.{Template}
 use Rattle.csn_movetext.specs.Numbers.{AreNumbers}
 use Rattle.csn_json.specs.declared.form.TreeForm.{TreeForm}
-use Rattle.csn_movetext.specs.Openings.{OpeningsV, AreOpened, AreOpenings, opening_in, opening_of, number_at, number_text, HasLabel}
+use Rattle.csn_movetext.specs.Openings.{OpeningsV, AreOpened, AreOpenings, label_part, opening_in, opening_of, number_at, number_text, HasLabel}
 use Rattle.csn_movetext.proofs.NumberFacts.{parts_within}
 
 -- ---- the pool
 
-bytes_kept : (pool more : List ℕ) (place : Place) → IsWithin pool place → bytes_at (pool ++ more) place ≡ bytes_at pool place
-bytes_kept pool more place is =
-    ap (λ l. take (place.end - place.start) l) (drop-append-le place.start pool more (omega (arith, is.0, is.1)))
-    ∙ take-append-le (place.end - place.start) (drop place.start pool) more (omega (arith, is.0, is.1, length-drop place.start pool))
+bytes_kept : (pool more : List ℕ) (place : Place) → place.start ≤ place.end → place.end ≤ length pool
+    → bytes_at (pool ++ more) place ≡ bytes_at pool place
+bytes_kept pool more place order inside =
+    ap (λ l. take (place.end - place.start) l) (drop-append-le place.start pool more (omega (arith, order, inside)))
+    ∙ take-append-le (place.end - place.start) (drop place.start pool) more (omega (arith, order, inside, length-drop place.start pool))
 
-bytes_all_kept : (pool more : List ℕ) (places : List Place) → ((i : ℕ) (place : Place) → slice_get places i ≡ Some place → IsWithin pool place)
-    → map (bytes_at (pool ++ more)) places ≡ map (bytes_at pool) places
-bytes_all_kept pool more [] are = refl
-bytes_all_kept pool more (place ∷ places) are =
-    ap (λ x. x ∷ map (bytes_at (pool ++ more)) places) (bytes_kept pool more place (are 0 place refl))
-    ∙ ap (λ l. bytes_at pool place ∷ l) (bytes_all_kept pool more places (λ i p at. are (suc i) p at))
+slice_get-left : {X : Type 0} (xs ys : List X) (i : ℕ) → i < length xs → slice_get (xs ++ ys) i ≡ slice_get xs i
+slice_get-left [] ys i small = absurd (omega (arith, small))
+slice_get-left (x ∷ xs) ys zero small = refl
+slice_get-left (x ∷ xs) ys (suc i) small = slice_get-left xs ys i (omega (arith, small))
 
-pub map-push : {X Y : Type 0} (f : X → Y) (xs : List X) (x : X) → map f (xs ++ x ∷ []) ≡ map f xs ++ f x ∷ []
+label_kept : (labels more : List (List ℕ)) (number : Option ℕ) → IsNumber labels number → label_at (labels ++ more) number ≡ label_at labels number
+label_kept labels more None is = refl
+label_kept labels more (Some n) is = slice_get-left labels more n is
+
+text_kept : (form : TreeForm) (pool more : List ℕ) (labels others : List (List ℕ)) (place : Place) → IsWithin pool labels place
+    → text_at form (pool ++ more) (labels ++ others) place ≡ text_at form pool labels place
+text_kept form pool more labels others place is =
+    ap (λ l. l ++ label_part form (label_at (labels ++ others) place.label)) (bytes_kept pool more place is.order is.bytes)
+    ∙ ap (λ o. bytes_at pool place ++ label_part form o) (label_kept labels others place.label is.label)
+
+texts_kept : (form : TreeForm) (pool more : List ℕ) (labels others : List (List ℕ)) (places : List Place)
+    → ((i : ℕ) (place : Place) → slice_get places i ≡ Some place → IsWithin pool labels place)
+    → map (text_at form (pool ++ more) (labels ++ others)) places ≡ map (text_at form pool labels) places
+texts_kept form pool more labels others [] are = refl
+texts_kept form pool more labels others (place ∷ places) are =
+    ap (λ x. x ∷ map (text_at form (pool ++ more) (labels ++ others)) places) (text_kept form pool more labels others place (are 0 place refl))
+    ∙ ap (λ l. text_at form pool labels place ∷ l) (texts_kept form pool more labels others places (λ i p at. are (suc i) p at))
+
+map-push : {X Y : Type 0} (f : X → Y) (xs : List X) (x : X) → map f (xs ++ x ∷ []) ≡ map f xs ++ f x ∷ []
 map-push f [] x = refl
 map-push f (y ∷ xs) x = ap (λ l. f y ∷ l) (map-push f xs x)
 
@@ -49,20 +68,64 @@ last_bytes pool more place first last =
 
 -- one opening more
 pub pushed :
-    (pool more new : List ℕ) (places : List Place) (place : Place) → ((i : ℕ) (p : Place) → slice_get places i ≡ Some p → IsWithin pool p)
-    → new ≡ pool ++ more → place.start ≡ length pool → place.end ≡ length new
-    → map (bytes_at new) (places ++ place ∷ []) ≡ map (bytes_at pool) places ++ more ∷ []
-pushed pool more new places place are same first last =
-    ap (λ l. map (bytes_at l) (places ++ place ∷ [])) same
-    ∙ map-push (bytes_at (pool ++ more)) places place
-    ∙ ap (λ x. map (bytes_at (pool ++ more)) places ++ x ∷ []) (last_bytes pool more place first (last ∙ ap length same))
-    ∙ ap (λ l. l ++ more ∷ []) (bytes_all_kept pool more places are)
+    (form : TreeForm) (pool text new : List ℕ) (labels more new_labels : List (List ℕ)) (places : List Place) (place : Place)
+    (label : Option (List ℕ)) → ((i : ℕ) (p : Place) → slice_get places i ≡ Some p → IsWithin pool labels p)
+    → new ≡ pool ++ text → new_labels ≡ labels ++ more → place.start ≡ length pool → place.end ≡ length new
+    → label_at new_labels place.label ≡ label
+    → map (text_at form new new_labels) (places ++ place ∷ []) ≡ map (text_at form pool labels) places ++ (text ++ label_part form label) ∷ []
+pushed form pool text new labels more new_labels places place label are same same_labels first last is =
+    ap (λ l. map (text_at form l new_labels) (places ++ place ∷ [])) same
+    ∙ map-push (text_at form (pool ++ text) new_labels) places place
+    ∙ ap (λ l. map (text_at form (pool ++ text) new_labels) places ++ (l ++ label_part form (label_at new_labels place.label)) ∷ [])
+    (last_bytes pool text place first (last ∙ ap length same))
+    ∙ ap (λ o. map (text_at form (pool ++ text) new_labels) places ++ (text ++ label_part form o) ∷ []) is
+    ∙ ap (λ l. map (text_at form (pool ++ text) l) places ++ (text ++ label_part form label) ∷ []) same_labels
+    ∙ ap (λ l. l ++ (text ++ label_part form label) ∷ []) (texts_kept form pool text labels more places are)
 
--- places lie in longer bytes too
-pub longer_within : (pool more new : List ℕ) (places : List Place) → ((i : ℕ) (p : Place) → slice_get places i ≡ Some p → IsWithin pool p) → new ≡ pool ++ more
-    → (i : ℕ) (p : Place) → slice_get places i ≡ Some p → IsWithin new p
-longer_within pool more new places are same i p at =
-    let is = are i p at in (is.0, omega (arith, is.1, ap length same, length-append pool more))
+map_at : {X Y : Type 0} (f : X → Y) (xs : List X) (i : ℕ) (x : X) → slice_get xs i ≡ Some x → slice_get (map f xs) i ≡ Some (f x)
+map_at f [] i x at = absurd (cc)
+map_at f (y ∷ xs) zero x at = let same : y ≡ x = cc in ap (λ z. Some (f z)) same
+map_at f (y ∷ xs) (suc i) x at = map_at f xs i x at
+
+map_behind : {X Y : Type 0} (f : X → Y) (xs : List X) (i : ℕ) → length xs ≤ i → slice_get (map f xs) i ≡ None
+map_behind f [] i low = refl
+map_behind f (y ∷ xs) zero low = absurd (omega (arith, low))
+map_behind f (y ∷ xs) (suc i) low = map_behind f xs i (omega (arith, low))
+
+-- the opening of a node is the text at its place, and there is none behind the last place
+pub text_there :
+    (form : TreeForm) (pool : List ℕ) (labels : List (List ℕ)) (places : List Place) (templates : List (Option Template)) (i : ℕ) (place : Place)
+    → slice_get places i ≡ Some place
+    → text_at form pool labels place ≡ opening_in (record { form = form; texts = map (text_at form pool labels) places; templates = templates }) i
+text_there form pool labels places templates i place at = sym (ap (λ o. unwrap_or o []) (map_at (text_at form pool labels) places i place at))
+
+pub no_text :
+    (form : TreeForm) (pool : List ℕ) (labels : List (List ℕ)) (places : List Place) (templates : List (Option Template)) (i : ℕ)
+    → length places ≤ i
+    → [] ≡ opening_in (record { form = form; texts = map (text_at form pool labels) places; templates = templates }) i
+no_text form pool labels places templates i low = sym (ap (λ o. unwrap_or o []) (map_behind (text_at form pool labels) places i low))
+
+-- where there is no label, none is written
+pub no_label : (form : TreeForm) (label : Option (Bor (List ℕ))) → is_some label ≡ false → label_part form (option_copied label) ≡ []
+no_label form None is = refl
+no_label form (Some label) is = absurd (cc)
+
+number_stays : (labels more : List (List ℕ)) (number : Option ℕ) → IsNumber labels number → IsNumber (labels ++ more) number
+number_stays labels more None is = is
+number_stays labels more (Some n) is = omega (arith, is, length-append labels more)
+
+-- places lie in longer bytes too, and among more labels
+pub longer_within :
+    (pool text new : List ℕ) (labels more new_labels : List (List ℕ)) (places : List Place)
+    → ((i : ℕ) (p : Place) → slice_get places i ≡ Some p → IsWithin pool labels p) → new ≡ pool ++ text → new_labels ≡ labels ++ more
+    → (i : ℕ) (p : Place) → slice_get places i ≡ Some p → IsWithin new new_labels p
+longer_within pool text new labels more new_labels places are same same_labels i p at =
+    let is = are i p at in
+    record {
+      order = is.order;
+      bytes = omega (arith, is.bytes, ap length same, length-append pool text);
+      label = subst (λ l. IsNumber l p.label) (sym same_labels) (number_stays labels more p.label is.label);
+    }
 
 slice_get-push : {X : Type 0} (xs : List X) (x y : X) (i : ℕ) → slice_get (xs ++ x ∷ []) i ≡ Some y → (P : X → Type 0)
     → ((j : ℕ) (z : X) → slice_get xs j ≡ Some z → P z) → P x → P y
@@ -72,12 +135,17 @@ slice_get-push (z ∷ xs) x y zero at P others here = let same : z ≡ y = cc in
 slice_get-push (z ∷ xs) x y (suc i) at P others here = slice_get-push xs x y i at P (λ j w get. others (suc j) w get) here
 
 pub pushed_within :
-    (pool more new : List ℕ) (places : List Place) (place : Place) → ((i : ℕ) (p : Place) → slice_get places i ≡ Some p → IsWithin pool p)
-    → new ≡ pool ++ more → place.start ≡ length pool → place.end ≡ length new
-    → (i : ℕ) (p : Place) → slice_get (places ++ place ∷ []) i ≡ Some p → IsWithin new p
-pushed_within pool more new places place are same first last i p at =
-    slice_get-push places place p i at (IsWithin new) (longer_within pool more new places are same)
-    (omega (arith, first, last, ap length same, length-append pool more), omega (arith, last))
+    (pool text new : List ℕ) (labels more new_labels : List (List ℕ)) (places : List Place) (place : Place)
+    → ((i : ℕ) (p : Place) → slice_get places i ≡ Some p → IsWithin pool labels p) → new ≡ pool ++ text → new_labels ≡ labels ++ more
+    → place.start ≡ length pool → place.end ≡ length new → IsNumber new_labels place.label
+    → (i : ℕ) (p : Place) → slice_get (places ++ place ∷ []) i ≡ Some p → IsWithin new new_labels p
+pushed_within pool text new labels more new_labels places place are same same_labels first last label i p at =
+    slice_get-push places place p i at (IsWithin new new_labels) (longer_within pool text new labels more new_labels places are same same_labels)
+    (record {
+      order = omega (arith, first, last, ap length same, length-append pool text);
+      bytes = omega (arith, last);
+      label = label;
+    })
 
 -- ---- the openings of nodes
 
@@ -97,11 +165,6 @@ begun_none form d numbers =
       labelled = λ i n small. absurd (omega (arith, small));
     }
 
-slice_get-before : {X : Type 0} (xs : List X) (x : X) (i : ℕ) → i < length xs → slice_get (xs ++ x ∷ []) i ≡ slice_get xs i
-slice_get-before [] x i small = absurd (omega (arith, small))
-slice_get-before (y ∷ xs) x zero small = refl
-slice_get-before (y ∷ xs) x (suc i) small = slice_get-before xs x i (omega (arith, small))
-
 slice_get-last : {X : Type 0} (xs : List X) (x : X) → slice_get (xs ++ x ∷ []) (length xs) ≡ Some x
 slice_get-last [] x = refl
 slice_get-last (y ∷ xs) x = slice_get-last xs x
@@ -116,7 +179,7 @@ begun_next form d numbers k number n old new given at label same are =
     (record {
       many = length-append old (opening_of form number n ∷ []) ∙ omega (arith, are.many);
       opened = λ i other m small here there. elim (cases_lt i k) [
-        | inl low ↦ slice_get-before old (opening_of form number n) i (omega (arith, low, are.many)) ∙ are.opened i other m low here there
+        | inl low ↦ slice_get-left old (opening_of form number n ∷ []) i (omega (arith, low, are.many)) ∙ are.opened i other m low here there
         | inr high ↦
             let last : i ≡ k = omega (arith, small, high) in
             let place : i ≡ length old = omega (arith, last, are.many) in

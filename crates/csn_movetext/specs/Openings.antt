@@ -66,6 +66,16 @@ pub record OpeningsV : Type 0 where
 abbrev pub opening_in : OpeningsV → ℕ → List ℕ
 opening_in openings i = unwrap_or (slice_get openings.texts i) []
 
+-- one text more behind the others
+abbrev pub with_text : OpeningsV → List ℕ → OpeningsV
+with_text openings text =
+    record { form = openings.form; texts = openings.texts ++ text ∷ []; templates = openings.templates }
+
+-- the text of a label, where there is one
+abbrev pub label_part : TreeForm → Option (List ℕ) → List ℕ
+label_part form None = []
+label_part form (Some label) = label_text form label
+
 -- the label of a node, where it has one, is a label
 abbrev pub HasLabel : Node → Type 0
 HasLabel (Named label part) = IsLabel label

@@ -5,7 +5,7 @@ use Rattle.csn_desc.specs.declared.node.Node.{Node}
 use Rattle.csn_desc.specs.declared.node.Node.TheVariants.{Lits}
 use Rattle.csn_json.specs.declared.form.TreeForm.{TreeForm}
 use Rattle.csn_movetext.specs.Openings.{OpeningsV, opening_in}
-use Rattle.csn_movetext.specs.Writing.{WritingV, gathering, behind}
+use Rattle.csn_movetext.specs.Writing.{WritingV, gathering, entered, behind}
 use Rattle.csn_movetext.specs.Kept.{KeptV, Shows, Extends}
 
 -- the openings with their form, what is kept of the text, and whether memory was refused; and, between two bits of a
@@ -33,6 +33,10 @@ TookBits form false b old new = (w : WritingV) → Shows form old w → Shows fo
 
 abbrev pub TookAll : TreeForm → Node → List ℕ → KeptV → KeptV → Type 0
 TookAll form node b old new = TookBits form (is_literal node) b old new
+
+-- the text that is shown goes on by the opening of a node that is entered
+abbrev pub Enters : TreeForm → List ℕ → KeptV → KeptV → Type 0
+Enters form opening old new = (w next : WritingV) → Shows form old w → entered form opening w ≡ Some next → Shows form new next
 
 -- the text that is shown goes on by a move
 abbrev pub Moves : OpeningsV → Move → Node → KeptV → KeptV → Type 0

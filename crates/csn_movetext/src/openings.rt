@@ -1,12 +1,15 @@
-ghost use Rattle.std.specs.Prelude.{◌≡◌, ◌<◌, ◌++◌, ◌∷◌, [], length, slice_get, Some, IsTrue, OnOk, IfOk, IfSome, option_copied};
+ghost use Rattle.std.specs.Prelude.{◌≡◌, ℕ, ◌<◌, ◌++◌, ◌∷◌, [], List, length, slice_get, Some, OnOk, IfOk, option_copied};
 ghost use Rattle.csn_desc.specs.Label.{IsLabel};
-ghost use Rattle.csn_json.specs.Forms.{label_text, leaf_opening, mark_text, nothing_text};
-ghost use Rattle.csn_movetext.specs.Openings.{AreOpened, AreTemplates, HasLabel, HasOpenings, node_opening, opening_in, opening_of};
-ghost use Rattle.csn_movetext.specs.Pool.{IsWithin, bytes_at};
+ghost use Rattle.csn_json.specs.Forms.{label_text, leaf_opening, nothing_text};
+ghost use Rattle.csn_movetext.specs.Kept.{Extends};
+ghost use Rattle.csn_movetext.specs.Openings.{AreOpened, AreTemplates, HasLabel, HasOpenings, label_part, node_opening, number_text};
+ghost use Rattle.csn_movetext.specs.Openings.{opening_in, opening_of, with_text};
+ghost use Rattle.csn_movetext.specs.Pool.{IsNumber, IsWithin, label_at, text_at};
 ghost use Rattle.csn_movetext.specs.Templates.{template_at};
 
 use crate::alternatives::alternatives;
 use crate::digits::push_number;
+use crate::room::push_text;
 use crate::template::Template;
 use crate::templates::templates;
 use crate::writing::leaf_width;
@@ -18,11 +21,8 @@ use std::alloc::Global;
 use std::marker::{Brand, Model};
 use std::sync::ledger::{Blank, Ledger};
 
-/// An opening of so many bytes is looked for among those that were written before.
+/// A label of so many bytes is kept as the node has it, and its text is made where it is written.
 const LONG: usize = 256;
-
-/// Among so many of them.
-const MOST_LONG: usize = 1024;
 
 /// What each node of a plan writes of its tree in a form where it begins, and the templates of those that are written at
 /// once. A contract sees the form, and the lists of these texts and of the templates.
@@ -30,16 +30,26 @@ const MOST_LONG: usize = 1024;
 pub struct Openings {
     form: TreeForm,
     pool: Vec<u8>,
+    /// The long labels.
+    labels: Vec<Label>,
     places: Vec<Place>,
     /// For each node its template, if it has one; none at all in JSON.
     templates: Vec<Option<Template>>,
 }
 
-/// Where a text stands in the pool.
+/// Where a text stands in the pool, and the number of the long label behind it, if there is one.
 #[derive(Clone, Copy)]
 struct Place {
     start: u32,
     end: u32,
+    label: Option<u32>,
+}
+
+/// What a node writes where it begins: a text, and behind it a label, if there is one.
+#[derive(Clone, Copy)]
+pub(crate) struct Opening<'a> {
+    pub text: &'a [u8],
+    pub label: Option<&'a Label>,
 }
 
 impl Model for Openings {
@@ -71,14 +81,17 @@ impl Openings {
 
     /// What node `i` writes; nothing where there is no such node.
     #[inline(always)]
-    pub(crate) fn get(&self, i: u16) -> &[u8]
-        ensures { result.now ≡ opening_in self.now i }
+    pub(crate) fn get(&self, i: u16) -> Opening<'_>
+        ensures { result.text.now ++ label_part self.now.form (option_copied result.label) ≡ opening_in self.now i }
     {
         if usize::from(i) < self.places.len() {
             let place = self.places[usize::from(i)];
-            &self.pool[place.start as usize..place.end as usize]
+            opening_at(self.pool.as_slice(), self.labels.as_slice(), place)
         } else {
-            b""
+            Opening {
+                text: b"",
+                label: None,
+            }
         }
     }
 
@@ -101,52 +114,36 @@ impl Openings {
         Openings { templates, ..self }
     }
 
-    /// That of a node behind the others, with its number where it is an alternative. It is made in `opening`, and `long`
-    /// has the places of the long ones.
+    /// That of a node behind the others, with its number where it is an alternative. It is made in `opening`.
     fn add(
         &mut self,
         opening: &mut Vec<u8>,
-        long: &mut Vec<Place>,
-        form: TreeForm,
         number: Option<u16>,
         node: &Node,
     ) -> Result<(), NoMemory>
-        ensures added { OnOk result (self.new ≡ record {
-          form = self.old.form;
-          texts =
-              self.old.texts ++ opening_of form number node.now ∷ [];
-          templates = self.old.templates;
-        }) }
+        ensures added { OnOk result (self.new ≡ with_text self.old (opening_of self.old.form number node.now)) }
         ensures label { OnOk result (HasLabel node.now) }
     {
         opening.clear();
-        push_opening(opening, form, number, node)?;
-        self.push(opening.as_slice(), long)
-    }
-
-    /// One more behind the others. A long one that is among the last long ones is not written again.
-    fn push(&mut self, opening: &[u8], long: &mut Vec<Place>) -> Result<(), NoMemory>
-        ensures { OnOk result (self.new ≡ record { form = self.old.form; texts = self.old.texts ++ opening.now ∷ []; templates = self.old.templates }) }
-    {
-        if opening.len() < LONG {
-            let _place = self.write(opening)?;
-            return Ok(());
-        }
-        match place_of(self.pool.as_slice(), long.as_slice(), opening) {
-            Some(place) => Ok(self.places.push(place)?),
-            None => {
-                let place = self.write(opening)?;
-                Ok(long.push(place)?)
+        push_mark(opening, self.form, number)?;
+        match node {
+            Node::Named { label, .. } if label.bytes().len() >= LONG => {
+                self.push(opening.as_slice(), Some(label))
+            }
+            _ => {
+                push_node(opening, self.form, node)?;
+                self.push(opening.as_slice(), None)
             }
         }
     }
 
-    /// One more behind the others, written into the pool: its place there.
-    fn write(&mut self, opening: &[u8]) -> Result<Place, NoMemory>
-        ensures { OnOk result (self.new ≡ record { form = self.old.form; texts = self.old.texts ++ opening.now ∷ []; templates = self.old.templates }) }
+    /// One more behind the others: a text, and behind it that of a label, if there is one.
+    fn push(&mut self, text: &[u8], label: Option<&Label>) -> Result<(), NoMemory>
+        ensures { OnOk result (self.new ≡ with_text self.old (text.now ++ label_part self.old.form (option_copied label.entry))) }
     {
+        let number = keep(&mut self.labels, label)?;
         let start = self.pool.len();
-        self.pool.extend_from_slice(opening)?;
+        self.pool.extend_from_slice(text)?;
         let end = self.pool.len();
         if end > u32::MAX as usize {
             return Err(NoMemory);
@@ -154,39 +151,51 @@ impl Openings {
         let place = Place {
             start: start as u32,
             end: end as u32,
+            label: number,
         };
-        self.places.push(place)?;
-        Ok(place)
+        Ok(self.places.push(place)?)
     }
 }
 
-/// Whether a text stands at a place.
-fn stands_at(pool: &[u8], place: Place, text: &[u8]) -> bool
-    ensures { IsTrue result → IsWithin pool.now place × (bytes_at pool.now place ≡ text.now) }
+/// What stands at a place.
+#[inline(always)]
+fn opening_at<'a>(pool: &'a [u8], labels: &'a [Label], place: Place) -> Opening<'a>
+    requires { IsWithin pool.now labels.now place }
+    ensures { (form : TreeForm) → result.text.now ++ label_part form (option_copied result.label) ≡ text_at form pool.now labels.now place }
 {
-    let start = place.start as usize;
-    let end = place.end as usize;
-    if start > end {
-        return false;
-    }
-    if end > pool.len() {
-        return false;
-    }
-    &pool[start..end] == text
+    let text = &pool[place.start as usize..place.end as usize];
+    let label = label_at(labels, place.label);
+    Opening { text, label }
 }
 
-/// One of the last places at which a text stands, if there is one.
-fn place_of(pool: &[u8], places: &[Place], text: &[u8]) -> Option<Place>
-    ensures { IfSome result (λ place. IsWithin pool.now place × (bytes_at pool.now place ≡ text.now)) }
+/// The label with a number, if there is one.
+#[inline(always)]
+fn label_at(labels: &[Label], number: Option<u32>) -> Option<&Label>
+    requires { IsNumber labels.now number }
+    ensures { option_copied result ≡ label_at labels.now number }
 {
-    let first = places.len().saturating_sub(MOST_LONG);
-    for at in (first..places.len()).rev() {
-        let place = places[at];
-        if stands_at(pool, place, text) {
-            return Some(place);
-        }
+    match number {
+        None => None,
+        Some(number) => Some(&labels[number as usize]),
     }
-    None
+}
+
+/// Keeps a label behind the others, if there is one: its number.
+fn keep(labels: &mut Vec<Label>, label: Option<&Label>) -> Result<Option<u32>, NoMemory>
+    ensures number { IfOk result (λ number. label_at labels.new.items number ≡ option_copied label.entry) }
+    ensures within { IfOk result (λ number. IsNumber labels.new.items number) }
+    ensures more { (more : List (List ℕ)) × (labels.new.items ≡ labels.old.items ++ more) }
+{
+    let Some(label) = label else {
+        return Ok(None);
+    };
+    let number = labels.len();
+    if number > u32::MAX as usize {
+        return Err(NoMemory);
+    }
+    let copy = label.copy(*labels.allocator())?;
+    labels.push(copy)?;
+    Ok(Some(number as u32))
 }
 
 /// The openings of a plan, with a counter of steps.
@@ -228,38 +237,25 @@ fn bare_openings<L: Ledger>(
     let mut openings = Openings {
         form,
         pool: Vec::new(alloc),
+        labels: Vec::new(alloc),
         places: Vec::new(alloc),
         templates: Vec::new(alloc),
     };
     let mut opening = Vec::new(alloc);
-    let mut long = Vec::new(alloc);
     for i in 0..plan.len() {
         let node = plan.node(i, steps);
-        openings.add(&mut opening, &mut long, form, numbers[usize::from(i)], node)?;
+        openings.add(&mut opening, numbers[usize::from(i)], node)?;
     }
     Ok(openings)
 }
 
-/// Adds what a node writes where it begins, with its number where it is an alternative.
-fn push_opening(
-    out: &mut Vec<u8>,
-    form: TreeForm,
-    number: Option<u16>,
-    node: &Node,
-) -> Result<(), NoMemory>
-    ensures text { OnOk result (out.new.items ≡ out.old.items ++ opening_of form number node.now) }
-    ensures label { OnOk result (HasLabel node.now) }
+/// Adds the number of a node that is an alternative.
+fn push_mark(out: &mut Vec<u8>, form: TreeForm, number: Option<u16>) -> Result<(), NoMemory>
+    ensures { OnOk result (out.new.items ≡ out.old.items ++ number_text form number) }
 {
-    if let Some(number) = number {
-        push_mark(out, form, number)?;
-    }
-    push_node(out, form, node)
-}
-
-/// Adds the number of an alternative.
-fn push_mark(out: &mut Vec<u8>, form: TreeForm, number: u16) -> Result<(), NoMemory>
-    ensures { OnOk result (out.new.items ≡ out.old.items ++ mark_text form number) }
-{
+    let Some(number) = number else {
+        return Ok(());
+    };
     match form {
         TreeForm::Text => {
             out.push(b'#')?;
@@ -303,23 +299,25 @@ fn push_nothing(out: &mut Vec<u8>, form: TreeForm) -> Result<(), NoMemory>
 }
 
 /// Adds a label.
-fn push_label(out: &mut Vec<u8>, form: TreeForm, label: &Label) -> Result<(), NoMemory>
+pub(crate) fn push_label(out: &mut Vec<u8>, form: TreeForm, label: &Label) -> Result<(), NoMemory>
     ensures text { OnOk result (out.new.items ≡ out.old.items ++ label_text form label.now) }
     ensures label { OnOk result (IsLabel label.now) }
+    ensures extends { Extends out.old.items out.new.items }
+{
+    let (before, behind) = label_signs(form);
+    push_text(out, before)?;
+    push_text(out, label.bytes())?;
+    push_text(out, behind)
+}
+
+/// What stands before a label, and behind it.
+fn label_signs(form: TreeForm) -> (&'static [u8], &'static [u8])
+    ensures { (label : List ℕ) → label_text form label ≡ result.0.now ++ (label ++ result.1.now) }
 {
     match form {
-        TreeForm::Text => {
-            out.push(b'<')?;
-            out.extend_from_slice(label.bytes())?;
-            out.extend_from_slice(b">=")?;
-        }
-        TreeForm::Json => {
-            out.extend_from_slice(b"{\"label\":\"")?;
-            out.extend_from_slice(label.bytes())?;
-            out.extend_from_slice(b"\",\"tree\":")?;
-        }
+        TreeForm::Text => (b"<", b">="),
+        TreeForm::Json => (b"{\"label\":\"", b"\",\"tree\":"),
     }
-    Ok(())
 }
 
 /// Adds what stands before the bits of a leaf, with its width where it is known.

@@ -95,8 +95,12 @@ fn template_of<L: Ledger>(
     let Some(layout) = plan.layout(i) else {
         return Ok(None);
     };
+    let opening = openings.get(i);
+    if opening.label.is_some() {
+        return Ok(None);
+    }
     let mut template = Template::new(alloc);
-    template.push_text(openings.get(i))?;
+    template.push_text(opening.text)?;
     let node = plan.node(i, steps);
     let made = Made { plan, templates };
     if push_node(&mut template, made, node, layout.width)? {

@@ -1,14 +1,16 @@
-ghost use Rattle.std.specs.Prelude.{◌≤◌, OnOk};
+ghost use Rattle.std.specs.Prelude.{◌≤◌, ◌++◌, OnOk};
 ghost use Rattle.csn_bits.specs.Numbers.{low_bits};
+ghost use Rattle.csn_json.specs.Forms.{label_text};
 ghost use Rattle.csn_movetext.specs.Kept.{Extends, kept_of};
-ghost use Rattle.csn_movetext.specs.Track.{Moves, TookAll};
+ghost use Rattle.csn_movetext.specs.Openings.{opening_in};
+ghost use Rattle.csn_movetext.specs.Track.{Enters, Moves, TookAll};
 
 use crate::laws::moves_write_their_tree;
-use crate::openings::Openings;
+use crate::openings::{Openings, push_label};
 use crate::writing::Writing;
 use csn_bits::NoMemory;
 use csn_certify::{Layout, Plan};
-use csn_desc::{Move, Node};
+use csn_desc::{Label, Move, Node};
 use csn_json::TreeForm;
 use csn_judge::Track;
 use std::marker::Model;
@@ -142,11 +144,41 @@ fn write_move(
 {
     let form = openings.form();
     match step {
-        Move::Enter(number) => writing.enter(form, openings.get(number)),
+        Move::Enter(number) => enter(writing, openings, number),
         Move::Bit(bit) if bit > 1 => Err(NoMemory),
         Move::Bit(bit) => take_bits(writing, form, u64::from(bit), 1, node),
         Move::Leave => writing.leave(form, node),
     }
+}
+
+// Node `i` begins.
+#[inline(always)]
+fn enter(writing: &mut Writing, openings: &Openings, i: u16) -> Result<(), NoMemory>
+    ensures entered { OnOk result (Enters openings.now.form (opening_in openings.now i) (kept_of writing.old) (kept_of writing.new)) }
+    ensures extends { Extends writing.old.out.items writing.new.out.items }
+{
+    let form = openings.form();
+    let opening = openings.get(i);
+    match opening.label {
+        None => writing.enter(form, opening.text),
+        Some(label) => enter_labelled(writing, form, opening.text, label),
+    }
+}
+
+// A node begins whose opening is a text and a label behind it.
+#[cold]
+#[inline(never)]
+fn enter_labelled(
+    writing: &mut Writing,
+    form: TreeForm,
+    text: &[u8],
+    label: &Label,
+) -> Result<(), NoMemory>
+    ensures entered { OnOk result (Enters form (text.now ++ label_text form label.now) (kept_of writing.old) (kept_of writing.new)) }
+    ensures extends { Extends writing.old.out.items writing.new.out.items }
+{
+    writing.enter(form, text)?;
+    push_label(&mut writing.out, form, label)
 }
 
 // The innermost node takes the last `count` bits of a number. Those of a literal are in no text.

@@ -1,8 +1,8 @@
-use Rattle.std.proofs.Common.{◌≡◌, ℕ, ◌<◌, length, arith, ◌∙◌, sym, subst, ap, Some, get_or}
+use Rattle.std.proofs.Common.{◌≡◌, ℕ, ◌<◌, length, arith, ◌∙◌, sym, subst, ap, Some, get_or, ◌++◌, ◌∷◌, []}
 use Rattle.std.specs.Prelude.{slice_get}
 use Rattle.std.proofs.lemmas.Option.{slice_get-get_or}
 use Rattle.csn_json.specs.declared.form.TreeForm.{TreeForm}
-use Rattle.csn_movetext.specs.Openings.{OpeningsV}
+use Rattle.csn_movetext.specs.Openings.{OpeningsV, opening_of}
 use Rattle.csn_movetext.proofs.PoolFacts.{AreBegun, begun_next, are_opened}
 use Rattle.csn_movetext.proofs.openings.bare_openings.Goals as goal
 
@@ -16,7 +16,8 @@ loop-i-preserved g c =
       form,
       begun_next c.args.form c.args.plan.now c.in_ok-numbers.numbers.items c.loop-i.i c.index.result.now
           c.node-node.result.now c.loop-i.openings.texts c.add.new.self.texts
-          given c.node-node.ensures.node c.in_ok-add.ensures.label (ap (λ (o : OpeningsV). o.texts) c.in_ok-add.ensures.added) c.loop-i.invariant.1,
+          given c.node-node.ensures.node c.in_ok-add.ensures.label (ap (λ (o : OpeningsV). o.texts) c.in_ok-add.ensures.added
+          ∙ ap (λ f. c.loop-i.openings.texts ++ opening_of f c.index.result.now c.node-node.result.now ∷ []) c.loop-i.invariant.0) c.loop-i.invariant.1,
       ap (λ (o : OpeningsV). o.templates) c.in_ok-add.ensures.added ∙ c.loop-i.invariant.2,
     )
 
