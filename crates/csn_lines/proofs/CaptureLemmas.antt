@@ -10,8 +10,7 @@ use Rattle.std.proofs.lemmas.Bool.{cases_Bool}
 use Rattle.std.proofs.lemmas.List.{length-drop, length-set, map-append}
 use Rattle.std.proofs.lemmas.Option.{slice_get_read}
 use Rattle.csn_catalogue.specs.declared.entry.Entry.{Entry}
-use Rattle.csn_catalogue.specs.Entries.{all_entries, entry_place, entry_root, entry_word}
-use Rattle.csn_catalogue.specs.Text.{catalogue_text}
+use Rattle.csn_catalogue.specs.Entries.{entry_place, entry_word}
 use Rattle.csn_desc.specs.Nodes.{DescV}
 use Rattle.csn_json.specs.declared.form.TreeForm.TheVariants.{Text}
 use Rattle.csn_movetext.specs.Lines.{LineV, ReadsLine}
@@ -19,14 +18,11 @@ use Rattle.csn_replay.specs.Head.{HeadOf, block_so_far}
 use Rattle.csn_replay.specs.Laws.{HeadsTellCaptures, IsOnlyCapture}
 use Rattle.csn_replay.specs.declared.head.CaptureHead.{CaptureHead}
 use Rattle.csn_replay.specs.declared.head.CaptureHead.TheVariants.{Word, Block, Missing}
-use Rattle.csn_desc.specs.declared.reading.Reading.{Reading}
-use Rattle.csn_grammar.specs.RulesV.{RulesV}
-use Rattle.csn_plan.specs.Compiled.{AreCompiled, IsCompiled}
 use Rattle.csn_lines.specs.declared.lines.Answered.{Answered}
 use Rattle.csn_lines.specs.Lines.{is_refusal, is_refused}
-use Rattle.csn_lines.specs.OutLine.{CaptureLineBy, ShowsAs, captures_block, captures_fault, no_capture}
+use Rattle.csn_lines.specs.Language.{Language, of_plan, of_plans}
+use Rattle.csn_lines.specs.OutLine.{CaptureLine, ShowsAs, ShowsBlock, captures_block, captures_fault, no_capture}
 use Rattle.csn_lines.specs.Replaying.{AreFresh, AreTexts, ReadsCapture, desc_of, taken_at}
-use Rattle.csn_lines.proofs.ReplayedLines.{compiled_at, stands_at}
 
 eqb_self : (n : ℕ) → eqb n n ≡ true
 eqb_self n = grind arith
@@ -259,12 +255,12 @@ begins_after writers Missing head line reads not_block is = reads_as writers Mis
 -- ---- what a line is answered
 
 -- where it is of no entry
-pub answers_none : HeadsTellCaptures → (plans : List DescV) (head : CaptureHead) (line : List ℕ)
+pub answers_none : HeadsTellCaptures → (languages : Entry → Language) (head : CaptureHead) (line : List ℕ)
     → HeadOf head line → ((entry : Entry) → head ≡ Block entry → ⊥)
-    → CaptureLineBy plans line (codes "bad 5") None
-answers_none tells plans (Word word) line is not_block rules reading compiled = no_capture (tells (Word word) line is) refl refl
-answers_none tells plans (Block entry) line is not_block rules reading compiled = absurd (not_block entry refl)
-answers_none tells plans Missing line is not_block rules reading compiled = no_capture (tells Missing line is) refl refl
+    → CaptureLine languages line (codes "bad 5") None
+answers_none tells languages (Word word) line is not_block = no_capture (tells (Word word) line is) refl refl
+answers_none tells languages (Block entry) line is not_block = absurd (not_block entry refl)
+answers_none tells languages Missing line is not_block = no_capture (tells Missing line is) refl refl
 
 desc_at : (writers : List LineV) (place : ℕ) (writer : LineV) (default : DescV)
     → slice_get writers place ≡ Some writer → get_or (map desc_of writers) place default ≡ writer.desc
@@ -272,26 +268,19 @@ desc_at [] place writer default is = absurd (cc)
 desc_at (w ∷ writers) zero writer default is = (let here : w ≡ writer = cc in ap desc_of here)
 desc_at (w ∷ writers) (suc place) writer default is = desc_at writers place writer default is
 
-compiled_for : (writers : List LineV) (entry : Entry) (writer : LineV)
-    → slice_get writers (entry_place entry) ≡ Some writer → (rules : RulesV) (reading : Reading)
-    → AreCompiled rules reading all_entries (map desc_of writers) → IsCompiled catalogue_text (entry_root entry) reading rules writer.desc
-compiled_for writers entry writer here rules reading compiled =
-    subst (λ (d : DescV). IsCompiled catalogue_text (entry_root entry) reading rules d) (desc_at writers (entry_place entry) writer writer.desc here)
-    (compiled_at reading rules all_entries (map desc_of writers) (entry_place entry) entry writer.desc compiled (stands_at entry))
-
 -- by the description of its entry
 pub answers_block : (writers : List LineV) (entry : Entry) (writer : LineV) (line answer : List ℕ) (bits : Option ℕ)
     (answered : Answered) → slice_get writers (entry_place entry) ≡ Some writer
     → IsOnlyCapture line entry (length (entry_word entry) + 1)
-    → ShowsAs Text writer.desc (block_so_far (Block entry) line) answer bits
+    → ShowsAs Text (of_plan writer.desc) (block_so_far (Block entry) line) answer bits
     → is_refused answered ≡ is_refusal answer
-    → CaptureLineBy (map desc_of writers) line answer (option_map (λ n. record { entry = entry; bits = n; ok = not (is_refused answered) }) bits)
-answers_block writers entry writer line answer (Some n) answered here capture (block, spells, count, shows) refused rules reading compiled =
+    → CaptureLine (of_plans (map desc_of writers)) line answer (option_map (λ n. record { entry = entry; bits = n; ok = not (is_refused answered) }) bits)
+answers_block writers entry writer line answer (Some n) answered here capture (block, spells, count, shows) refused =
     captures_block entry (length (entry_word entry) + 1) block capture.capture spells
-    (shows catalogue_text rules (entry_root entry) reading (compiled_for writers entry writer here rules reading compiled))
+    (subst (λ (d : DescV). ShowsBlock Text (of_plan d) block answer) (sym (desc_at writers (entry_place entry) writer _ here)) shows)
     (ap (λ (n : ℕ). Some (record { entry = entry; bits = n; ok = not (is_refused answered) })) count ∙ ap
     (λ (b : Bool). Some (record { entry = entry; bits = length block; ok = not b })) refused)
-answers_block writers entry writer line answer None answered here capture (fault, is, text) refused rules reading compiled =
+answers_block writers entry writer line answer None answered here capture (fault, is, text) refused =
     captures_fault entry (length (entry_word entry) + 1) fault capture.capture is text refl
 
 -- what was pushed where there was no error

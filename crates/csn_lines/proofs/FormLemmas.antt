@@ -1,10 +1,15 @@
 -- Trees in the two forms.
-use Rattle.std.proofs.Common.{◌≡◌, ℕ, ◌⊎◌, inl, inr, true, List, ◌++◌, codes, refl, sym, ◌∙◌, ap, subst}
+use Rattle.std.proofs.Common.{◌≡◌, ℕ, ◌⊎◌, inl, inr, true, List, ◌++◌, Some, codes, slice_get, refl, sym, ◌∙◌, ap, subst}
 use Rattle.std.specs.Fmt.{decimal}
+use Rattle.csn_desc.specs.declared.node.Node.TheVariants.{Named}
+use Rattle.csn_desc.specs.Formed.{IsDescription}
+use Rattle.csn_desc.specs.Label.{IsLabel}
+use Rattle.csn_desc.specs.Nodes.{DescV}
 use Rattle.csn_desc.specs.TreeV.{TreeV}
 use Rattle.csn_desc.specs.TreeParts.{HasTreeParts}
 use Rattle.csn_treetext.specs.declared.version.Version.TheVariants.{Second}
 use Rattle.csn_treetext.specs.Fits.{Fits}
+use Rattle.csn_encode.specs.Encoding.{IsBlockOf}
 use Rattle.csn_json.specs.declared.fault.JsonFault.TheVariants.{NotJson, NotTree}
 use Rattle.csn_json.specs.Forms.{IsShown, text_in}
 use Rattle.csn_json.specs.declared.form.TreeForm.{TreeForm}
@@ -66,6 +71,14 @@ module _ (known : Known) where
   shown_is_read Text t line spelled fits parts = record { fits = fits; parts = parts; spelled = spelled }
   shown_is_read Json t line spelled fits parts =
       known.of_json.written t line (record { fits = fits; parts = parts; spelled = spelled })
+
+  -- a line that is the text of the tree of a block by a description, whose labels are labels, is that tree
+  pub block_is_read : (form : TreeForm) (d : DescV) (b : List ℕ) (t : TreeV) (line : List ℕ) → IsDescription d
+      → ((i part : ℕ) (label : List ℕ) → slice_get d.nodes i ≡ Some (Named label part) → IsLabel label)
+      → IsBlockOf d t b → line ≡ text_in form t → IsRead form t line
+  block_is_read form d b t line is labels block spelled =
+      let shown = known.of_blocks.texts form d b t is labels block.within block.means in
+      shown_is_read form t line spelled (known.of_blocks.fit d b t is block.means) (shown_parts form t (text_in form t) shown)
 
   pub not_unread : (form : TreeForm) (t : TreeV) (line answer : List ℕ) → IsRead form t line → IsUnread form line answer → ⊥
   not_unread Text t line answer is bad = bad.1.no_tree t is

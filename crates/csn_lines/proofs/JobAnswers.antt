@@ -9,10 +9,11 @@ use Rattle.csn_treetext.specs.declared.version.Version.TheVariants.{First, Secon
 use Rattle.csn_treetext.specs.Text.{text_of}
 use Rattle.csn_command.specs.declared.command.RuleCommand.{RuleCommand}
 use Rattle.csn_command.specs.declared.command.RuleCommand.TheVariants.{Show, Write}
+use Rattle.csn_lines.specs.Language.{of_rule}
 use Rattle.csn_lines.specs.Known.{KnownOfTrees, Known}
 use Rattle.csn_plan.specs.Compiled.{IsCompiled}
 use Rattle.csn_lines.specs.LineState.{LineState, AnswersAlone}
-use Rattle.csn_lines.specs.OutLine.{AnswersByRule, MigratesLine, migrates_tree, migrates_place}
+use Rattle.csn_lines.specs.OutLine.{AnswersLine, MigratesLine, migrates_tree, migrates_place}
 use Rattle.csn_lines.specs.Jobs.{by_rule, migrating, segmenting, replaying}
 use Rattle.csn_lines.specs.Laws.{JobsHaveAnswers, JobsHaveOneAnswer}
 use Rattle.csn_lines.proofs.ShownLines.{each_shown, one_shown}
@@ -38,12 +39,12 @@ one_migrated known line answer other (migrates_place place at e) (migrates_place
     e ∙ ap (λ p. codes "bad " ++ decimal p) same ∙ sym e'
 
 module _ (known : Known) (text : List ℕ) (rules : RulesV) (name : List ℕ) (reading : Reading) (d : DescV) (is : IsCompiled text name reading rules d) where
-  each_by_rule : (command : RuleCommand) (line : List ℕ) → (answer : List ℕ) × AnswersByRule command rules name reading line answer
+  each_by_rule : (command : RuleCommand) (line : List ℕ) → (answer : List ℕ) × AnswersLine command (of_rule rules name reading) line answer
   each_by_rule (Show form) line = each_shown known text rules name reading d is form line
   each_by_rule (Write form) line = each_written known text rules name reading d is form line
 
   one_by_rule : (command : RuleCommand) (line answer other : List ℕ)
-      → AnswersByRule command rules name reading line answer → AnswersByRule command rules name reading line other
+      → AnswersLine command (of_rule rules name reading) line answer → AnswersLine command (of_rule rules name reading) line other
       → answer ≡ other
   one_by_rule (Show form) = one_shown known text rules name reading d is form
   one_by_rule (Write form) = one_written known text rules name reading d is form
@@ -60,17 +61,21 @@ one_alone :
 one_alone Answer line one a b = (a.2 ∙ ap (λ l. l ++ 10 ∷ []) (one a.0 b.0 a.1 b.1) ∙ sym b.2, a.3 ∙ sym b.3)
 
 pub each_in_job : Known → JobsHaveAnswers
-each_in_job known (by_rule command rules name reading) (text, d, compiled) before line =
-    alone (AnswersByRule command rules name reading) before line (each_by_rule known text rules name reading d compiled command line)
+each_in_job known (by_rule command rules name reading) (work, does) before line =
+    alone (AnswersLine command (of_rule rules name reading)) before line
+    (each_by_rule known does.0 rules name reading does.1 does.2 command line)
 each_in_job known migrating plans before line = alone MigratesLine before line (each_migrated known.of_trees line)
-each_in_job known (segmenting rules reading) (d, compiled) before line = each_segments known catalogue_text rules reading d compiled before line
-each_in_job known (replaying rules reading watchers) (plans, compiled) before line = each_replays known rules reading plans compiled before line
+each_in_job known (segmenting rules reading) (work, does) before line =
+    each_segments known catalogue_text rules reading does.0 does.1 before line
+each_in_job known (replaying rules reading watchers) (work, does) before line =
+    each_replays known rules reading does.0 does.1 before line
 
 pub one_in_job : Known → JobsHaveOneAnswer
-one_in_job known (by_rule command rules name reading) (file, d, compiled) before line text other after end a b =
-    one_alone (AnswersByRule command rules name reading) line (one_by_rule known file rules name reading d compiled command line) a b
+one_in_job known (by_rule command rules name reading) (work, does) before line text other after end a b =
+    one_alone (AnswersLine command (of_rule rules name reading)) line
+    (one_by_rule known does.0 rules name reading does.1 does.2 command line) a b
 one_in_job known migrating plans before line text other after end a b = one_alone MigratesLine line (one_migrated known.of_trees line) a b
-one_in_job known (segmenting rules reading) (d, compiled) before line text other after end a b =
-    one_segments known catalogue_text rules reading d compiled a b
-one_in_job known (replaying rules reading watchers) (plans, compiled) before line text other after end a b =
-    one_replays known rules reading plans compiled a b
+one_in_job known (segmenting rules reading) (work, does) before line text other after end a b =
+    one_segments known catalogue_text rules reading does.0 does.1 a b
+one_in_job known (replaying rules reading watchers) (work, does) before line text other after end a b =
+    one_replays known rules reading does.0 does.1 a b

@@ -18,6 +18,7 @@ use Rattle.csn_segment.specs.declared.joined.Joined.TheVariants.{Whole, Waiting,
 use Rattle.csn_segment.specs.Joining.{answer_to}
 use Rattle.csn_segment.specs.Laws.{IsShort}
 use Rattle.csn_json.specs.declared.form.TreeForm.TheVariants.{Text}
+use Rattle.csn_lines.specs.Language.{of_rules}
 use Rattle.csn_lines.specs.Known.{Known}
 use Rattle.csn_plan.specs.Compiled.{IsCompiled}
 use Rattle.csn_lines.specs.LineState.{LineState}
@@ -31,7 +32,7 @@ same_state after end blocks watchers =
 -- ---- each line has an answer
 
 module _ (known : Known) (text : List ℕ) (rules : RulesV) (reading : Reading) (d : DescV) (is : IsCompiled text (entry_root Downlink) reading rules d) where
-  joined_answer : (joined : Joined) → IsShort joined → (answer : List ℕ) × AnswersJoined rules reading joined answer
+  joined_answer : (joined : Joined) → IsShort joined → (answer : List ℕ) × AnswersJoined (of_rules rules reading Downlink) joined answer
   joined_answer (Whole message) short =
       each_block known text rules (entry_root Downlink) reading d is Text (bits_of_octets message.items)
       (omega (arith, short, length-bits_of_octets message.items))
@@ -39,7 +40,7 @@ module _ (known : Known) (text : List ℕ) (rules : RulesV) (reading : Reading) 
   joined_answer (Refused why) short = (codes "bad " ++ decimal (segment_fault why), refl)
 
   abbrev HasAnswer : List (List ℕ) → List ℕ → Type 0
-  HasAnswer before line = (answer : List ℕ) × (after : List (List ℕ)) × SegmentsLine rules reading before line answer after
+  HasAnswer before line = (answer : List ℕ) × (after : List (List ℕ)) × SegmentsLine (of_rules rules reading Downlink) before line answer after
 
   block_answer : (before : List (List ℕ)) (line block : List ℕ) → BlockLine line block → HasAnswer before line
   block_answer before line block spells = elim (cases_Bool (eqb (length block % 8) 0)) [
@@ -58,15 +59,16 @@ module _ (known : Known) (text : List ℕ) (rules : RulesV) (reading : Reading) 
   line_answer before line None none = let block = (known.of_lines.fault_or_block line).0 none in block_answer before line block.0 block.1
   line_answer before line (Some why) has = (fault_text (fault_for why), before, is_no_block (fault_for why) (why, has, refl) refl refl)
 
-  pub each_segments : (before : LineState) (line : List ℕ) → (text : List ℕ) × (after : LineState) × Segments rules reading before line text after
+  pub each_segments : (before : LineState) (line : List ℕ) → (text : List ℕ) × (after : LineState)
+      × Segments (of_rules rules reading Downlink) before line text after
   each_segments before line =
       let answer = line_answer before.blocks line (fault_of line) refl in
       (answer.0 ++ 10 ∷ [], record { blocks = answer.1; watchers = before.watchers }, (answer.0, answer.2, refl, refl))
 
   -- ---- and no other
 
-  one_joined : (joined : Joined) (answer other : List ℕ) → AnswersJoined rules reading joined answer
-      → AnswersJoined rules reading joined other → answer ≡ other
+  one_joined : (joined : Joined) (answer other : List ℕ) → AnswersJoined (of_rules rules reading Downlink) joined answer
+      → AnswersJoined (of_rules rules reading Downlink) joined other → answer ≡ other
   one_joined (Whole message) answer other h k = one_block known text rules (entry_root Downlink) reading d is Text
       (bits_of_octets message.items) answer other h k
   one_joined (Waiting rti) answer other h k = h ∙ sym k
@@ -79,12 +81,12 @@ module _ (known : Known) (text : List ℕ) (rules : RulesV) (reading : Reading) 
   one_spelled line block other spells spelled = known.of_lines.spells_one line block other spells spelled
 
   one_line : (before after end : List (List ℕ)) (line answer other : List ℕ)
-      → SegmentsLine rules reading before line answer after → SegmentsLine rules reading before line other end
+      → SegmentsLine (of_rules rules reading Downlink) before line answer after → SegmentsLine (of_rules rules reading Downlink) before line other end
       → SameLine answer other after end
   one_line before after end line answer other (joins_block block spells whole joined is_after) (joins_block block' spells' whole' joined' is_end) =
       let same = one_spelled line block block' spells spells' in (
         one_joined (answer_to before (octets_of block')) answer other
-            (subst (λ b. AnswersJoined rules reading (answer_to before (octets_of b)) answer) same joined) joined',
+            (subst (λ b. AnswersJoined (of_rules rules reading Downlink) (answer_to before (octets_of b)) answer) same joined) joined',
         is_after ∙ ap (λ b. before ++ octets_of b ∷ []) same ∙ sym is_end,
       )
   one_line before after end line answer other (joins_block block spells whole joined is_after) (no_octets block' spells' part e is_end) =
@@ -109,7 +111,7 @@ module _ (known : Known) (text : List ℕ) (rules : RulesV) (reading : Reading) 
       absurd (no_block known text rules (entry_root Downlink) reading d is line block fault holds spells)
 
   pub one_segments : {before : LineState} {line text other : List ℕ} {after end : LineState}
-      → Segments rules reading before line text after → Segments rules reading before line other end → (text ≡ other)
+      → Segments (of_rules rules reading Downlink) before line text after → Segments (of_rules rules reading Downlink) before line other end → (text ≡ other)
       × (after ≡ end)
   one_segments {before} {line} {after = after} {end} h k =
       let same = one_line before.blocks after.blocks end.blocks line h.0 k.0 h.1 k.1 in

@@ -3,10 +3,12 @@ pub mod AnswerLemmas
 pub mod Blames
 pub mod CaptureLemmas
 pub mod Captures
+pub mod Following
 pub mod FormLemmas
 pub mod FormsAgree
 pub mod JobAnswers
 pub mod JoinedLines
+pub mod LanguagesAgree
 pub mod LinesLemmas
 pub mod MeantParts
 pub mod OutsideLemmas
@@ -17,4 +19,5 @@ pub mod ShowLemmas
 pub mod ShownLines
 pub mod StandingLemmas
 pub mod Within
+pub mod WorkLemmas
 pub mod WrittenLines

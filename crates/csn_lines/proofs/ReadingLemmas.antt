@@ -6,7 +6,7 @@ use Rattle.std.proofs.Math.Seq.{take-append-add}
 use Rattle.csn_lines.specs.Lines.{HasNoFeed, without_return}
 use Rattle.csn_lines.specs.declared.lines.Lines.{Lines}
 use Rattle.csn_lines.specs.LineState.{Kept}
-use Rattle.csn_lines.specs.OutLine.{LineWork}
+use Rattle.csn_lines.specs.Work.{LineWork}
 use Rattle.csn_lines.specs.Reading.{AtLine, OnlyGives, return_of}
 use Rattle.csn_lines.proofs.LinesLemmas.{HasNoFeed-append}
 

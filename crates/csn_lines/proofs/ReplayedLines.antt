@@ -21,6 +21,7 @@ use Rattle.csn_replay.specs.Watched.{reports}
 use Rattle.csn_replay.specs.declared.seen.Seen.{Seen}
 use Rattle.csn_replay.proofs.Captures.{each_entry}
 use Rattle.csn_json.specs.declared.form.TreeForm.TheVariants.{Text}
+use Rattle.csn_lines.specs.Language.{of_rule, of_rules}
 use Rattle.csn_lines.specs.Known.{Known}
 use Rattle.csn_plan.specs.Compiled.{AreCompiled, IsCompiled}
 use Rattle.csn_lines.specs.LineState.{LineState}
@@ -67,7 +68,7 @@ module _ (known : Known) (rules : RulesV) (reading : Reading) (plans : List Desc
   -- ---- each line has an answer
 
   abbrev HasAnswer : List ℕ → Type 0
-  HasAnswer line = (answer : List ℕ) × (seen : Option Seen) × CaptureLine rules reading line answer seen
+  HasAnswer line = (answer : List ℕ) × (seen : Option Seen) × CaptureLine (of_rules rules reading) line answer seen
 
   of_entry : (line : List ℕ) (entry : Entry) (at : ℕ) → IsCapture line entry at → (fault : Option LineWhy) → fault_of (drop at line) ≡ fault → HasAnswer line
   of_entry line entry at is None none =
@@ -83,7 +84,7 @@ module _ (known : Known) (rules : RulesV) (reading : Reading) (plans : List Desc
     | inr none ↦ (codes "bad 5", None, no_capture none refl refl)
   ]
 
-  pub each_replays : (before : LineState) (line : List ℕ) → (text : List ℕ) × (after : LineState) × Replays rules reading before line text after
+  pub each_replays : (before : LineState) (line : List ℕ) → (text : List ℕ) × (after : LineState) × Replays (of_rules rules reading) before line text after
   each_replays before line =
       let answer = has_answer line in (
         answer.0 ++ 10 ∷ reports (done_behind answer.1 before.watchers),
@@ -109,15 +110,15 @@ module _ (known : Known) (rules : RulesV) (reading : Reading) (plans : List Desc
       no_block known catalogue_text rules (entry_root entry) reading plan.0 plan.1 (drop at' line) block fault holds
       (block_at_one entry entry' (λ l. BlockLine l block) is is' spells)
 
-  one_answer : (line answer other : List ℕ) (seen seen' : Option Seen) → CaptureLine rules reading line answer seen
-      → CaptureLine rules reading line other seen' → SameAnswer answer other seen seen'
+  one_answer : (line answer other : List ℕ) (seen seen' : Option Seen) → CaptureLine (of_rules rules reading) line answer seen
+      → CaptureLine (of_rules rules reading) line other seen' → SameAnswer answer other seen seen'
   one_answer line answer other seen seen' (captures_block entry at block is spells shows sees) (captures_block entry' at' block' is' spells' shows' sees') =
       let same : entry ≡ entry' = (one_capture known.of_captures is is').0 in
       let one : block ≡ block' = known.of_lines.spells_one (drop at' line) block block'
       (block_at_one entry entry' (λ l. BlockLine l block) is is' spells) spells' in
       let plan = plan_of entry' in
-      let here = subst (λ b. ShowsBlock Text rules (entry_root entry') reading b answer) one
-      (subst (λ (e : Entry). ShowsBlock Text rules (entry_root e) reading block answer) same shows) in
+      let here = subst (λ b. ShowsBlock Text (of_rule rules (entry_root entry') reading) b answer) one
+      (subst (λ (e : Entry). ShowsBlock Text (of_rule rules (entry_root e) reading) block answer) same shows) in
       let answers : answer ≡ other = one_block known catalogue_text rules (entry_root entry') reading plan.0 plan.1 Text block' answer other here shows' in (
         answers,
         sees ∙ ap (λ e. Some (seen_of e block answer)) same ∙ ap (λ b. Some (seen_of entry' b answer))
@@ -139,7 +140,7 @@ module _ (known : Known) (rules : RulesV) (reading : Reading) (plans : List Desc
   one_answer line answer other seen seen' (no_capture none e sees) (no_capture none' e' sees') = (e ∙ sym e', sees ∙ sym sees')
 
   pub one_replays : {before : LineState} {line text other : List ℕ} {after end : LineState}
-      → Replays rules reading before line text after → Replays rules reading before line other end → (text ≡ other)
+      → Replays (of_rules rules reading) before line text after → Replays (of_rules rules reading) before line other end → (text ≡ other)
       × (after ≡ end)
   one_replays {before} {line} {after = after} {end} h k =
       let same = one_answer line h.0 k.0 h.1 k.1 h.2 k.2 in

@@ -8,11 +8,9 @@ use Rattle.csn_desc.specs.Nodes.{DescV}
 use Rattle.csn_json.specs.declared.form.TreeForm.{TreeForm}
 use Rattle.csn_judge.specs.Following.{IsNoString}
 use Rattle.csn_movetext.specs.Blocks.{IsTextOfBlock}
-use Rattle.csn_command.specs.declared.command.RuleCommand.TheVariants.{Show}
-use Rattle.csn_lines.specs.Known.{Known}
+use Rattle.csn_lines.specs.Language.{Language, of_plan}
 use Rattle.csn_lines.specs.Lines.{is_refusal}
-use Rattle.csn_lines.specs.OutLine.{AnswersBy, ShowsAs, ShowsBlockBy, fault_text, refusal_text, shows_block, shows_fault, shows_tree, shows_place}
-use Rattle.csn_lines.proofs.ShownLines.{string_of, meant_by, place_of}
+use Rattle.csn_lines.specs.OutLine.{ShowsAs, ShowsBlock, ShowsLine, fault_text, refusal_text, shows_block, shows_fault, shows_tree, shows_place}
 
 each_refuses : (why : LineWhy) → true ≡ is_refusal (fault_text (fault_for why))
 each_refuses (BadDigit column) = refl
@@ -25,18 +23,15 @@ pub fault_refuses : (line : List ℕ) (fault : BitsFault) → IsLineFault line f
 fault_refuses line fault h = subst (λ f. true ≡ is_refusal (fault_text f)) (sym h.2) (each_refuses h.0)
 
 -- a block that has a tree is answered by its text, and one that has none by its place
-module _ (known : Known) (form : TreeForm) (d : DescV) (block : List ℕ) where
-  pub text_shown : (text : List ℕ) → IsTextOfBlock form d block text → ShowsBlockBy form d block (codes "ok " ++ text)
-  text_shown text is file rules name reading compiled =
-      shows_tree is.tree text (string_of known file rules name reading _ compiled _ _ is.means) is.spelled refl
+module _ (form : TreeForm) (d : DescV) (block : List ℕ) where
+  pub text_shown : (text : List ℕ) → IsTextOfBlock form d block text → ShowsBlock form (of_plan d) block (codes "ok " ++ text)
+  text_shown text is = shows_tree is.tree text is.means is.spelled refl
 
-  pub place_shown : (place : ℕ) → IsNoString d block place → ShowsBlockBy form d block (refusal_text place block)
-  place_shown place is file rules name reading compiled =
-      shows_place place (λ t string. is.no_tree t (meant_by known file rules name reading _ compiled _ t string))
-      (place_of known file rules name reading _ compiled _ _ is.place_is) refl
+  pub place_shown : (place : ℕ) → IsNoString d block place → ShowsBlock form (of_plan d) block (refusal_text place block)
+  place_shown place is = shows_place place is.no_tree is.place_is refl
 
 -- a line is answered as its block is, or by its fault
-pub answers_as : (form : TreeForm) (d : DescV) (line answer : List ℕ) (bits : Option ℕ) → ShowsAs form d line answer bits → AnswersBy (Show form) d line answer
-answers_as form d line answer (Some bits) (block, spells, count, shows) file rules name reading compiled =
-    shows_block block spells (shows file rules name reading compiled)
-answers_as form d line answer None (fault, is, text) file rules name reading compiled = shows_fault fault is text
+pub answers_as : (form : TreeForm) (language : Language) (line answer : List ℕ) (bits : Option ℕ)
+    → ShowsAs form language line answer bits → ShowsLine form language line answer
+answers_as form language line answer (Some bits) (block, spells, count, shows) = shows_block block spells shows
+answers_as form language line answer None (fault, is, text) = shows_fault fault is text

@@ -14,6 +14,7 @@ use Rattle.csn_grammar.specs.RulesV.{RulesV}
 use Rattle.csn_grammar.specs.Shaped.{AreShaped}
 use Rattle.csn_grammar.specs.Strings.{Strings, IsPlace}
 use Rattle.csn_look.specs.declared.word.TheConstants.{MOST_WORD}
+use Rattle.csn_lines.specs.Language.{of_rule}
 use Rattle.csn_lines.specs.Known.{Known}
 use Rattle.csn_json.specs.Forms.{IsShown}
 use Rattle.csn_json.specs.declared.form.TreeForm.{TreeForm}
@@ -62,7 +63,7 @@ module _ (known : Known) (text : List ℕ) (rules : RulesV) (name : List ℕ) (r
 
   module _ (form : TreeForm) where
     -- a block has an answer
-    pub each_block : (block : List ℕ) → length block ≤ 524288 → (answer : List ℕ) × ShowsBlock form rules name reading block answer
+    pub each_block : (block : List ℕ) → length block ≤ 524288 → (answer : List ℕ) × ShowsBlock form (of_rule rules name reading) block answer
     each_block block few = elim (known.of_blocks.decided d 0 0 (length d.nodes) [] block description.numbered) [
       | inl tree ↦
           let string = string_of block tree.0 tree.1 in
@@ -73,20 +74,21 @@ module _ (known : Known) (text : List ℕ) (rules : RulesV) (name : List ℕ) (r
           (refusal_text place.0 block, shows_place place.0 (λ t string. none (t, meant_by block t string)) (place_of block place.0 place.1) refl)
     ]
 
-    line_answer : (line : List ℕ) (fault : Option LineWhy) → fault_of line ≡ fault → (answer : List ℕ) × ShowsLine form rules name reading line answer
+    line_answer : (line : List ℕ) (fault : Option LineWhy) → fault_of line ≡ fault → (answer : List ℕ)
+        × ShowsLine form (of_rule rules name reading) line answer
     line_answer line None none =
         let block = (known.of_lines.fault_or_block line).0 none in
         let answer = each_block block.0 block.1.few in
         (answer.0, shows_block block.0 block.1 answer.1)
     line_answer line (Some why) has = (fault_text (fault_for why), shows_fault (fault_for why) (why, has, refl) refl)
 
-    pub each_shown : (line : List ℕ) → (answer : List ℕ) × ShowsLine form rules name reading line answer
+    pub each_shown : (line : List ℕ) → (answer : List ℕ) × ShowsLine form (of_rule rules name reading) line answer
     each_shown line = line_answer line (fault_of line) refl
 
     -- ---- and no other
 
-    pub one_block : (block answer other : List ℕ) → ShowsBlock form rules name reading block answer
-        → ShowsBlock form rules name reading block other → answer ≡ other
+    pub one_block : (block answer other : List ℕ) → ShowsBlock form (of_rule rules name reading) block answer
+        → ShowsBlock form (of_rule rules name reading) block other → answer ≡ other
     one_block block answer other (shows_tree t written means has e) (shows_tree t' written' means' has' e') =
         let tree : t ≡ t' = one_tree block t t' means means' in
         let texts : written ≡ written' = one_shown_text form t t' written written' tree has has' in
@@ -97,11 +99,11 @@ module _ (known : Known) (text : List ℕ) (rules : RulesV) (name : List ℕ) (r
         let places : place ≡ place' = known.of_blocks.one_place rules reading name block place place' at at' in
         e ∙ ap (λ p. refusal_text p block) places ∙ sym e'
 
-    pub one_shown : (line answer other : List ℕ) → ShowsLine form rules name reading line answer
-        → ShowsLine form rules name reading line other → answer ≡ other
+    pub one_shown : (line answer other : List ℕ) → ShowsLine form (of_rule rules name reading) line answer
+        → ShowsLine form (of_rule rules name reading) line other → answer ≡ other
     one_shown line answer other (shows_block block spells shown) (shows_block block' spells' shown') =
         let same : block ≡ block' = known.of_lines.spells_one line block block' spells spells' in
-        one_block block' answer other (subst (λ b. ShowsBlock form rules name reading b answer) same shown) shown'
+        one_block block' answer other (subst (λ b. ShowsBlock form (of_rule rules name reading) b answer) same shown) shown'
     one_shown line answer other (shows_block block spells shown) (shows_fault fault holds e') = absurd (no_block line block fault holds spells)
     one_shown line answer other (shows_fault fault holds e) (shows_block block spells shown) = absurd (no_block line block fault holds spells)
     one_shown line answer other (shows_fault fault holds e) (shows_fault fault' holds' e') = e

@@ -8,7 +8,7 @@ use Rattle.csn_lines.specs.declared.fault.Fault.{Fault}
 use Rattle.csn_lines.specs.declared.fault.Fault.TheVariants.{Read, Write, Memory, TooLong}
 use Rattle.csn_lines.specs.declared.lines.TheConstants.{MOST_INPUT, PIECE}
 use Rattle.csn_lines.specs.Lines.{between_feeds}
-use Rattle.csn_lines.specs.Progress.{Answers, AddsAnswers, Closes, EndsIn, Advances, PassesOn, HaltsAt, AnswersAll, KeepsUp, StopsWithin, StopsBy, Stops}
+use Rattle.csn_lines.specs.Progress.{Answers, AddsAnswers, Closes, EndsIn, Advances, PassesOn, HaltsAt, AnswersAll, KeepsUp, StopsWithin, StopsWhere, Stops}
 use Rattle.csn_lines.proofs.LinesLemmas.{between_feeds-one}
 use Rattle.csn_io.proofs.Told.{appended_more, gave_more}
 use Rattle.csn_lines.proofs.ProgressLemmas.{adds_more, advances_more, Standing}
@@ -23,9 +23,9 @@ answers_of {before = before} {after = after} Step pieces new r a = subst (λ (t 
 -- a fault of the sink, or want of memory, stops a job within the input
 pub stops_by_within : {St : Type 0} {begin : St} (Step : St → List ℕ → List ℕ → St → Type 0) (fault : Fault)
     (given text : List ℕ) → (fault ≡ Write) ⊎ (fault ≡ Memory) → StopsWithin Step begin (take MOST_INPUT given) text
-    → StopsBy Step begin fault given text
+    → StopsWhere Step begin fault given text
 stops_by_within {begin = begin} Step fault given text cause h =
-    elim cause [ inl e ↦ subst (λ f. StopsBy Step begin f given text) (sym e) h | inr e ↦ subst (λ f. StopsBy Step begin f given text) (sym e) h ]
+    elim cause [ inl e ↦ subst (λ f. StopsWhere Step begin f given text) (sym e) h | inr e ↦ subst (λ f. StopsWhere Step begin f given text) (sym e) h ]
 
 -- a job that goes on by a piece keeps no answer back
 pub standing_keeps_up : {St : Type 0} {Step : St → List ℕ → List ℕ → St → Type 0} {begin now : St}
@@ -123,7 +123,7 @@ standing_text st = sym (append-nil st.took) ∙ ap (λ l. st.took ++ l) (sym st.
 stops_standing : {St : Type 0} {Step : St → List ℕ → List ℕ → St → Type 0} {begin now : St} {fault : Fault}
     {left left' left'' taken taken' : Option (List ℕ)} {line waits waits' : List ℕ} {r : Bool} {room : ℕ}
     (st : Standing Step begin left left' taken taken' line waits now r room)
-    → left'' ≡ left' → StopsBy Step begin fault st.given (st.took ++ waits')
+    → left'' ≡ left' → StopsWhere Step begin fault st.given (st.took ++ waits')
     → Stops Step begin fault left left'' taken taken' waits'
 stops_standing {left = left} st stays by = record {
   given = st.given;

@@ -7,7 +7,7 @@ use Rattle.csn_lines.specs.declared.fault.Fault.{Fault}
 use Rattle.csn_lines.specs.declared.fault.Fault.TheVariants.{Read, Write, Memory, TooLong}
 use Rattle.csn_lines.specs.declared.lines.TheConstants.{MOST_INPUT}
 use Rattle.csn_lines.specs.Lines.{between_feeds}
-use Rattle.csn_lines.specs.Progress.{StopsAfter, StopsWithin, StopsBy}
+use Rattle.csn_lines.specs.Progress.{StopsAfter, StopsWithin, StopsWhere}
 
 -- a job that stopped behind some lines stopped within them
 pub within_from_after : {St : Type 0} {begin : St} (Step : St → List ℕ → List ℕ → St → Type 0) (input text : List ℕ)
@@ -70,7 +70,7 @@ take_both most front past = elim (cases_lt most (length front)) [
 
 -- a job that met a fault stopped within the lines that end within the limit of an input
 pub within_from_by : {St : Type 0} {begin : St} (Step : St → List ℕ → List ℕ → St → Type 0) (fault : Fault)
-    (given text : List ℕ) → StopsBy Step begin fault given text → StopsWithin Step begin (take MOST_INPUT given) text
+    (given text : List ℕ) → StopsWhere Step begin fault given text → StopsWithin Step begin (take MOST_INPUT given) text
 within_from_by {begin = begin} Step Read given text h =
     subst (λ (l : List ℕ). StopsWithin Step begin l text) (sym (take_all MOST_INPUT given h.0)) (within_from_after Step given text h.1)
 within_from_by {begin = begin} Step Write given text h = h
@@ -80,7 +80,7 @@ within_from_by {begin = begin} Step TooLong given text h = within_from_after Ste
 -- the same of an input that goes on behind what was given, and of the front of what was written
 pub within_input : {St : Type 0} {begin : St} (Step : St → List ℕ → List ℕ → St → Type 0) (fault : Fault)
     (input given past text front rest : List ℕ) → input ≡ given ++ past → text ≡ front ++ rest
-    → StopsBy Step begin fault given text → StopsWithin Step begin (take MOST_INPUT input) front
+    → StopsWhere Step begin fault given text → StopsWithin Step begin (take MOST_INPUT input) front
 within_input {begin = begin} Step fault input given past text front rest goes_on split h =
     let more = take_both MOST_INPUT given past in
     within_longer Step (take MOST_INPUT input) (take MOST_INPUT given) more.0 front (ap (take MOST_INPUT) goes_on ∙ more.1)

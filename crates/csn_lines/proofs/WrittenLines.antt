@@ -7,17 +7,15 @@ use Rattle.csn_desc.specs.TreeV.{TreeV}
 use Rattle.csn_desc.specs.Nodes.{DescV}
 use Rattle.csn_grammar.specs.RulesV.{RulesV}
 use Rattle.csn_grammar.specs.Strings.{Strings}
-use Rattle.csn_resolve.specs.Resolved.{IsResolved}
 use Rattle.csn_encode.specs.declared.misfit.MisfitWhy.{MisfitWhy}
 use Rattle.csn_encode.specs.Misfits.{IsMisfit}
-use Rattle.csn_encode.specs.Encoding.{IsBlockOf, HasNoBlock}
-use Rattle.csn_json.specs.Forms.{text_in}
+use Rattle.csn_encode.specs.Encoding.{HasNoBlock}
+use Rattle.csn_lines.specs.Language.{Misses, of_rule}
 use Rattle.csn_lines.specs.Known.{Known}
 use Rattle.csn_json.specs.declared.form.TreeForm.{TreeForm}
 use Rattle.csn_plan.specs.Compiled.{IsCompiled}
 use Rattle.csn_lines.specs.OutLine.{IsRead, WritesLine, writes_block, writes_misfit, writes_bad, misfit_text}
-use Rattle.csn_lines.proofs.FormLemmas.{read_parts, read_or_not, one_read, not_unread, one_unread, shown_is_read}
-use Rattle.csn_lines.proofs.MeantParts.{string_parts}
+use Rattle.csn_lines.proofs.FormLemmas.{read_parts, read_or_not, one_read, not_unread, one_unread}
 use Rattle.csn_lines.proofs.ShownLines.{description, string_of, meant_by}
 
 module _ (known : Known) (text : List ℕ) (rules : RulesV) (name : List ℕ) (reading : Reading) (d : DescV) (is : IsCompiled text name reading rules d) where
@@ -25,20 +23,12 @@ module _ (known : Known) (text : List ℕ) (rules : RulesV) (name : List ℕ) (r
   pub no_block_of : (t : TreeV) → HasNoBlock d t → (b : List ℕ) → length b ≤ most_bits → Strings rules name reading b t → ⊥
   no_block_of t none b few string = none b (record { means = meant_by known text rules name reading d is b t string; within = few })
 
-  -- a line that is the text of the tree of a block, in a form, is that tree
-  pub read_along : (form : TreeForm) (line b : List ℕ) (t : TreeV) → line ≡ text_in form t → IsBlockOf d t b → IsRead form t line
-  read_along form line b t spelled block =
-      let string = string_of known text rules name reading d is b t block.means in
-      let fits = known.of_blocks.fit d b t (description known text rules name reading d is) block.means in
-      let parts = string_parts rules reading (known.of_rules.labelled text rules is.has_rules) known.of_blocks.are_bits name b t string block.within in
-      shown_is_read known form t line spelled fits parts
-
   missed : (t : TreeV) (path : List ℕ) (why : MisfitWhy) → IsMisfit d t path why → HasNoBlock d t
   missed t path why misfit b block = let few = block.within in known.of_misfits.no_bits d 0 0 [] t path why b misfit block.means (omega (arith, few))
 
   module _ (form : TreeForm) where
     abbrev HasAnswer : List ℕ → Type 0
-    HasAnswer line = (answer : List ℕ) × WritesLine form rules name reading line answer
+    HasAnswer line = (answer : List ℕ) × WritesLine form (of_rule rules name reading) line answer
 
     tree_answer : (line : List ℕ) (t : TreeV) → IsRead form t line → HasAnswer line
     tree_answer line t spells =
@@ -51,8 +41,8 @@ module _ (known : Known) (text : List ℕ) (rules : RulesV) (name : List ℕ) (r
           )
           | inr misfit ↦ (
             misfit_text misfit.0 misfit.1,
-            writes_misfit t d misfit.0 misfit.1 spells
-                (no_block_of t (missed t misfit.0 misfit.1 misfit.2)) is.resolved misfit.2 refl,
+            writes_misfit t misfit.0 misfit.1 spells
+                (no_block_of t (missed t misfit.0 misfit.1 misfit.2)) (d, is.resolved, misfit.2) refl,
           )
         ]
 
@@ -81,32 +71,32 @@ module _ (known : Known) (text : List ℕ) (rules : RulesV) (name : List ℕ) (r
         none b few (subst (λ x. Strings rules name reading b x) same has)
 
     one_misfit :
-        (line : List ℕ) (t u : TreeV) (e f : DescV) (path other : List ℕ) (why because : MisfitWhy)
-        → IsRead form t line → IsRead form u line → IsResolved rules name reading e → IsResolved rules name reading f
-        → IsMisfit e t path why → IsMisfit f u other because → (path ≡ other) × (why ≡ because)
-    one_misfit line t u e f path other why because spells spelled resolved gives first another =
+        (line : List ℕ) (t u : TreeV) (path other : List ℕ) (why because : MisfitWhy)
+        → IsRead form t line → IsRead form u line → Misses (of_rule rules name reading) t path why
+        → Misses (of_rule rules name reading) u other because → (path ≡ other) × (why ≡ because)
+    one_misfit line t u path other why because spells spelled first another =
         let trees : t ≡ u = one_read known form t u line spells spelled in
-        let descs : e ≡ f = known.of_rules.resolved_once rules reading name e f resolved gives in
+        let descs : first.0 ≡ another.0 = known.of_rules.resolved_once rules reading name first.0 another.0 first.1 another.1 in
         let P : DescV → Type 0 = λ x. IsMisfit x t path why in
-        let Q : TreeV → Type 0 = λ x. IsMisfit f x path why in
-        known.of_misfits.one_misfit f 0 0 [] u path other why because (subst Q trees (subst P descs first)) another
+        let Q : TreeV → Type 0 = λ x. IsMisfit another.0 x path why in
+        known.of_misfits.one_misfit another.0 0 0 [] u path other why because (subst Q trees (subst P descs first.2)) another.2
 
-    pub one_written : (line answer other : List ℕ) → WritesLine form rules name reading line answer
-        → WritesLine form rules name reading line other → answer ≡ other
+    pub one_written : (line answer other : List ℕ) → WritesLine form (of_rule rules name reading) line answer
+        → WritesLine form (of_rule rules name reading) line other → answer ≡ other
     one_written line answer other (writes_block t b spells few has e) (writes_block u c spelled few' holds e') =
         e ∙ ap (λ l. codes "ok " ++ written l) (one_block line b c t u spells spelled has holds) ∙ sym e'
     one_written line answer other (writes_block t b spells few has e)
-        (writes_misfit u f path why spelled none resolved misfit e') =
+        (writes_misfit u path why spelled none misses e') =
         absurd (block_or_misfit line b t u spells spelled few has none)
     one_written line answer other (writes_block t b spells few has e) (writes_bad bad) = absurd (not_unread known form t line other spells bad)
-    one_written line answer other (writes_misfit u f path why spelled none resolved misfit e')
+    one_written line answer other (writes_misfit u path why spelled none misses e')
         (writes_block t b spells few has e) = absurd (block_or_misfit line b t u spells spelled few has none)
-    one_written line answer other (writes_misfit t d path why spells none resolved first e) (writes_misfit u f path' why' spelled none' gives another e') =
-        let same = one_misfit line t u d f path path' why why' spells spelled resolved gives first another in
+    one_written line answer other (writes_misfit t path why spells none first e) (writes_misfit u path' why' spelled none' another e') =
+        let same = one_misfit line t u path path' why why' spells spelled first another in
         e ∙ ap (λ p. misfit_text p why) same.0 ∙ ap (λ w. misfit_text path' w) same.1 ∙ sym e'
-    one_written line answer other (writes_misfit u f path why spelled none resolved misfit e') (writes_bad bad) =
+    one_written line answer other (writes_misfit u path why spelled none misses e') (writes_bad bad) =
         absurd (not_unread known form u line other spelled bad)
     one_written line answer other (writes_bad bad) (writes_block t b spells few has e) = absurd (not_unread known form t line answer spells bad)
-    one_written line answer other (writes_bad bad) (writes_misfit u f path why spelled none resolved misfit e') =
+    one_written line answer other (writes_bad bad) (writes_misfit u path why spelled none misses e') =
         absurd (not_unread known form u line answer spelled bad)
     one_written line answer other (writes_bad bad) (writes_bad worse) = one_unread known form line answer other bad worse

@@ -8,7 +8,7 @@ use Rattle.csn_encode.specs.Laws.{FirstMisfitIsOne, MisfitsHaveNoBits, OneBlock,
 use Rattle.csn_segment.specs.Laws.{MessagesAreShort}
 use Rattle.csn_replay.specs.Laws.{HeadsTellCaptures}
 use Rattle.csn_treetext.specs.Laws as texts
-use Rattle.csn_movetext.specs.Laws.{TreesFit}
+use Rattle.csn_movetext.specs.Laws.{TreesFit, TreesHaveTexts}
 use Rattle.csn_json.specs.Laws as json
 
 -- of block lines
@@ -33,6 +33,7 @@ pub record KnownOfBlocks : Type 0 where
   pub some_place : BlocksHaveAPlace
   pub one_tree : BlocksHaveOneTree
   pub fit : TreesFit
+  pub texts : TreesHaveTexts
 
 -- of the texts of trees
 pub record KnownOfTrees : Type 0 where

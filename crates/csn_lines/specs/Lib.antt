@@ -1,6 +1,7 @@
 pub mod Ends
 pub mod Jobs
 pub mod Known
+pub mod Language
 pub mod Laws
 pub mod LineState
 pub mod Lines
@@ -8,3 +9,4 @@ pub mod OutLine
 pub mod Progress
 pub mod Reading
 pub mod Replaying
+pub mod Work

@@ -8,27 +8,19 @@ use Rattle.csn_bits.specs.Fault.{IsLineFault}
 use Rattle.csn_bits.specs.declared.fault.BitsFault.{BitsFault}
 use Rattle.csn_bits.specs.declared.fault.BitsFault.TheVariants.{BadDigit, BadLength, BadFill, TooManyBits, NoMemory}
 use Rattle.csn_catalogue.specs.declared.entry.Entry.{Entry}
-use Rattle.csn_catalogue.specs.declared.entry.Entry.TheVariants.{Downlink}
-use Rattle.csn_catalogue.specs.Entries.{all_entries, entry_root}
-use Rattle.csn_desc.specs.declared.reading.Reading.{Reading}
-use Rattle.csn_desc.specs.Nodes.{DescV}
 use Rattle.csn_desc.specs.TreeV.{TreeV}
 use Rattle.csn_encode.specs.declared.misfit.MisfitWhy.{MisfitWhy}
 use Rattle.csn_encode.specs.declared.misfit.MisfitWhy.TheVariants.{WrongKind, WrongLabel, WrongCount, WrongWidth}
 use Rattle.csn_encode.specs.declared.misfit.MisfitWhy.TheVariants.{WrongSpare, NoSuchAlternative, WindowLength}
 use Rattle.csn_encode.specs.declared.misfit.MisfitWhy.TheVariants.{TooManyBits as past_the_limit}
-use Rattle.csn_encode.specs.Misfits.{IsMisfit}
-use Rattle.csn_grammar.specs.RulesV.{RulesV}
-use Rattle.csn_grammar.specs.Strings.{Strings, IsPlace}
 use Rattle.csn_replay.specs.Capture.{IsCapture}
 use Rattle.csn_replay.specs.Watched.{Watched, done_watching, reports, still_watching}
 use Rattle.csn_replay.specs.declared.seen.Seen.{Seen}
-use Rattle.csn_resolve.specs.Resolved.{IsResolved}
 use Rattle.csn_segment.specs.declared.joined.Joined.{Joined}
 use Rattle.csn_segment.specs.declared.joined.Joined.TheVariants.{Whole, Waiting, Refused as no_message}
 use Rattle.csn_segment.specs.declared.joined.SegmentWhy.{SegmentWhy}
 use Rattle.csn_segment.specs.declared.joined.SegmentWhy.TheVariants.{BadLength as not_23_octets, NotControl, Reserved, NotFinal, NoFirst}
-use Rattle.csn_segment.specs.Joining.{answer_to, JoinsFor}
+use Rattle.csn_segment.specs.Joining.{answer_to}
 use Rattle.csn_treetext.specs.declared.version.Version.TheVariants.{First, Second}
 use Rattle.csn_treetext.specs.Place.{TreeText, OldText, IsFaultPlace}
 use Rattle.csn_json.specs.declared.fault.JsonFault.{JsonFault}
@@ -40,8 +32,9 @@ use Rattle.csn_json.specs.Forms.{IsShown}
 use Rattle.csn_command.specs.declared.command.RuleCommand.{RuleCommand}
 use Rattle.csn_lines.specs.declared.lines.TheConstants.{LINE_FEED}
 use Rattle.csn_command.specs.declared.command.RuleCommand.TheVariants.{Show, Write}
-use Rattle.csn_plan.specs.Compiled.{AreCompiled, IsCompiled, line_of}
-use Rattle.csn_lines.specs.LineState.{LineState, Kept, AnswersAlone}
+use Rattle.csn_plan.specs.Compiled.{line_of}
+use Rattle.csn_lines.specs.Language.{Language, HasPlace, HasTree, Misses}
+use Rattle.csn_lines.specs.LineState.{LineState}
 use Rattle.csn_lines.specs.Lines.{is_refusal}
 
 -- the answer to a line that is no block line: the number of its fault, and the column of a bad digit
@@ -58,19 +51,16 @@ refusal_text place block =
     codes "no " ++ (decimal place ++ (if nat_lt place (length block) then codes " bit" else codes " ended"))
 
 -- a block is answered by its tree in a form, or by the place up to which its bits can be followed
-pub data ShowsBlock (form : TreeForm) (rules : RulesV) (name : List ℕ) (reading : Reading) (block answer : List ℕ) : Type 0 where
-  shows_tree : (t : TreeV) (text : List ℕ) → Strings rules name reading block t → IsShown form t text
-      → answer ≡ codes "ok " ++ text → ShowsBlock form rules name reading block answer
-  shows_place : (place : ℕ) → ((t : TreeV) → Strings rules name reading block t → ⊥)
-      → IsPlace rules name reading block place → answer ≡ refusal_text place block
-      → ShowsBlock form rules name reading block answer
+pub data ShowsBlock (form : TreeForm) (language : Language) (block answer : List ℕ) : Type 0 where
+  shows_tree : (t : TreeV) (text : List ℕ) → HasTree language block t → IsShown form t text → answer ≡ codes "ok " ++ text
+      → ShowsBlock form language block answer
+  shows_place : (place : ℕ) → ((t : TreeV) → HasTree language block t → ⊥) → HasPlace language block place
+      → answer ≡ refusal_text place block → ShowsBlock form language block answer
 
 -- `show` and `json`: a block line is answered as its block is, and a line that is none by its fault
-pub data ShowsLine (form : TreeForm) (rules : RulesV) (name : List ℕ) (reading : Reading) (line answer : List ℕ) : Type 0 where
-  shows_block : (block : List ℕ) → BlockLine line block → ShowsBlock form rules name reading block answer
-      → ShowsLine form rules name reading line answer
-  shows_fault : (fault : BitsFault) → IsLineFault line fault → answer ≡ fault_text fault
-      → ShowsLine form rules name reading line answer
+pub data ShowsLine (form : TreeForm) (language : Language) (line answer : List ℕ) : Type 0 where
+  shows_block : (block : List ℕ) → BlockLine line block → ShowsBlock form language block answer → ShowsLine form language line answer
+  shows_fault : (fault : BitsFault) → IsLineFault line fault → answer ≡ fault_text fault → ShowsLine form language line answer
 
 -- steps down a tree: `/` and a number for each
 abbrev pub steps_text : List ℕ → List ℕ
@@ -120,28 +110,20 @@ abbrev pub Reads : TreeForm → List ℕ → Option TreeV → List ℕ → List 
 Reads form line (Some t) old new = IsRead form t line × (new ≡ old)
 Reads form line None old new = (answer : List ℕ) × IsUnread form line answer × (new ≡ old ++ answer)
 
--- `write` and `unjson`: a tree in the form is answered by the block that has it; where no block has it, by the first
--- misfit to the description of the rule; and a line that is no tree by what is wrong with it
-pub data WritesLine (form : TreeForm) (rules : RulesV) (name : List ℕ) (reading : Reading) (line answer : List ℕ) : Type 0 where
-  writes_block : (t : TreeV) (block : List ℕ) → IsRead form t line → length block ≤ most_bits
-      → Strings rules name reading block t → answer ≡ codes "ok " ++ written block
-      → WritesLine form rules name reading line answer
-  writes_misfit : (t : TreeV) (d : DescV) (path : List ℕ) (why : MisfitWhy) → IsRead form t line
-      → ((block : List ℕ) → length block ≤ most_bits → Strings rules name reading block t → ⊥)
-      → IsResolved rules name reading d → IsMisfit d t path why → answer ≡ misfit_text path why
-      → WritesLine form rules name reading line answer
-  writes_bad : IsUnread form line answer → WritesLine form rules name reading line answer
+-- `write` and `unjson`: a tree in the form is answered by the block that has it; where no block has it, by its first
+-- misfit; and a line that is no tree by what is wrong with it
+pub data WritesLine (form : TreeForm) (language : Language) (line answer : List ℕ) : Type 0 where
+  writes_block : (t : TreeV) (block : List ℕ) → IsRead form t line → length block ≤ most_bits → HasTree language block t
+      → answer ≡ codes "ok " ++ written block → WritesLine form language line answer
+  writes_misfit : (t : TreeV) (path : List ℕ) (why : MisfitWhy) → IsRead form t line
+      → ((block : List ℕ) → length block ≤ most_bits → HasTree language block t → ⊥) → Misses language t path why
+      → answer ≡ misfit_text path why → WritesLine form language line answer
+  writes_bad : IsUnread form line answer → WritesLine form language line answer
 
--- what answers a line of a command by a rule
-abbrev pub AnswersByRule : RuleCommand → RulesV → List ℕ → Reading → List ℕ → List ℕ → Type 0
-AnswersByRule (Show form) = ShowsLine form
-AnswersByRule (Write form) = WritesLine form
-
--- the same by a description, for each rule that has it
-abbrev pub AnswersBy : RuleCommand → DescV → List ℕ → List ℕ → Type 0
-AnswersBy command d line answer =
-    (text : List ℕ) (rules : RulesV) (name : List ℕ) (reading : Reading) → IsCompiled text name reading rules d
-    → AnswersByRule command rules name reading line answer
+-- what answers a line of a command
+abbrev pub AnswersLine : RuleCommand → Language → List ℕ → List ℕ → Type 0
+AnswersLine (Show form) = ShowsLine form
+AnswersLine (Write form) = WritesLine form
 
 -- `migrate`: the text of a tree as it was written before is answered by its text of today; and a line that
 -- is no such text by the place up to which it begins one
@@ -151,17 +133,11 @@ pub data MigratesLine (line answer : List ℕ) : Type 0 where
   migrates_place : (place : ℕ) → IsFaultPlace First line place → answer ≡ codes "bad " ++ decimal place
       → MigratesLine line answer
 
--- a block is answered so for each rule that has the description
-abbrev pub ShowsBlockBy : TreeForm → DescV → List ℕ → List ℕ → Type 0
-ShowsBlockBy form d block answer =
-    (text : List ℕ) (rules : RulesV) (name : List ℕ) (reading : Reading) → IsCompiled text name reading rules d
-    → ShowsBlock form rules name reading block answer
-
--- a line is answered so for each rule that has the description: its block, which has so many bits, or its fault
-abbrev pub ShowsAs : TreeForm → DescV → List ℕ → List ℕ → Option ℕ → Type 0
-ShowsAs form d line answer (Some bits) =
-    (block : List ℕ) × BlockLine line block × (bits ≡ length block) × ShowsBlockBy form d block answer
-ShowsAs form d line answer None = (fault : BitsFault) × IsLineFault line fault × (answer ≡ fault_text fault)
+-- a line is answered so: its block, which has so many bits, or its fault
+abbrev pub ShowsAs : TreeForm → Language → List ℕ → List ℕ → Option ℕ → Type 0
+ShowsAs form language line answer (Some bits) =
+    (block : List ℕ) × BlockLine line block × (bits ≡ length block) × ShowsBlock form language block answer
+ShowsAs form language line answer None = (fault : BitsFault) × IsLineFault line fault × (answer ≡ fault_text fault)
 
 -- the number of the fault that tells why a block gives no message
 abbrev pub segment_fault : SegmentWhy → ℕ
@@ -171,66 +147,46 @@ segment_fault Reserved = 7
 segment_fault NotFinal = 8
 segment_fault NoFirst = 9
 
--- what the joiner gives for a block is answered: a message as a downlink block, a first segment by its radio
--- transaction identifier, and a block that gives no message by its fault
-abbrev pub AnswersJoined : RulesV → Reading → Joined → List ℕ → Type 0
-AnswersJoined rules reading (Whole message) answer =
-    ShowsBlock Text rules (entry_root Downlink) reading (bits_of_octets message.items) answer
-AnswersJoined rules reading (Waiting rti) answer = answer ≡ codes "wait " ++ decimal rti
-AnswersJoined rules reading (no_message why) answer = answer ≡ codes "bad " ++ decimal (segment_fault why)
-
--- and so for the rule that describes downlink blocks, where it has the description
-abbrev pub AnswersJoinedBy : DescV → Joined → List ℕ → Type 0
-AnswersJoinedBy d joined answer =
-    (text : List ℕ) (rules : RulesV) (reading : Reading) → IsCompiled text (entry_root Downlink) reading rules d
-    → AnswersJoined rules reading joined answer
+-- what the joiner gives for a block is answered: a message as a block of the language of downlink blocks, a first segment
+-- by its radio transaction identifier, and a block that gives no message by its fault
+abbrev pub AnswersJoined : Language → Joined → List ℕ → Type 0
+AnswersJoined language (Whole message) answer = ShowsBlock Text language (bits_of_octets message.items) answer
+AnswersJoined language (Waiting rti) answer = answer ≡ codes "wait " ++ decimal rti
+AnswersJoined language (no_message why) answer = answer ≡ codes "bad " ++ decimal (segment_fault why)
 
 -- `segments`: a block line is answered by what the joiner gives for its block behind those before; but bits that are no
 -- whole octets, and a line that is no block line, are answered by their fault, and are not given to the joiner
-pub data SegmentsLine (rules : RulesV) (reading : Reading) (before : List (List ℕ)) (line answer : List ℕ) (after : List (List ℕ)) : Type 0 where
+pub data SegmentsLine (language : Language) (before : List (List ℕ)) (line answer : List ℕ) (after : List (List ℕ)) : Type 0 where
   joins_block : (block : List ℕ) → BlockLine line block → length block % 8 ≡ 0
-      → AnswersJoined rules reading (answer_to before (octets_of block)) answer
-      → after ≡ before ++ octets_of block ∷ [] → SegmentsLine rules reading before line answer after
+      → AnswersJoined language (answer_to before (octets_of block)) answer
+      → after ≡ before ++ octets_of block ∷ [] → SegmentsLine language before line answer after
   no_octets : (block : List ℕ) → BlockLine line block → length block % 8 ≢ 0 → answer ≡ codes "bad 5"
-      → after ≡ before → SegmentsLine rules reading before line answer after
+      → after ≡ before → SegmentsLine language before line answer after
   no_block : (fault : BitsFault) → IsLineFault line fault → answer ≡ fault_text fault → after ≡ before
-      → SegmentsLine rules reading before line answer after
+      → SegmentsLine language before line answer after
 
 -- how such a line takes the state further
-abbrev pub Segments : RulesV → Reading → LineState → List ℕ → List ℕ → LineState → Type 0
-Segments rules reading before line text after =
-    (answer : List ℕ) × SegmentsLine rules reading before.blocks line answer after.blocks
+abbrev pub Segments : Language → LineState → List ℕ → List ℕ → LineState → Type 0
+Segments language before line text after =
+    (answer : List ℕ) × SegmentsLine language before.blocks line answer after.blocks
     × (text ≡ answer ++ LINE_FEED ∷ []) × (after.watchers ≡ before.watchers)
-
--- a line is answered so, whichever blocks came before, and the bodies that are kept stand for those that came then
-abbrev pub JoinsLine : DescV → List (Option (List ℕ)) → List ℕ → List ℕ → List (Option (List ℕ)) → Type 0
-JoinsLine d bodies line answer bodies' =
-    (before : List (List ℕ)) → JoinsFor bodies before → (after : List (List ℕ)) × JoinsFor bodies' after
-    × ((text : List ℕ) (rules : RulesV) (reading : Reading) → IsCompiled text (entry_root Downlink) reading rules d
-    → SegmentsLine rules reading before line answer after)
-
--- how such a line takes what is kept further
-abbrev pub Joins : DescV → Kept → List ℕ → List ℕ → Kept → Type 0
-Joins d kept line text kept' =
-    (answer : List ℕ) × JoinsLine d kept.bodies line answer kept'.bodies × (text ≡ answer ++ LINE_FEED ∷ [])
-    × (kept'.watchers ≡ kept.watchers)
 
 -- a block of an entry as watchers are shown it: it is a string of the entry where its answer is no refusal
 abbrev pub seen_of : Entry → List ℕ → List ℕ → Seen
 seen_of entry block answer = record { entry = entry; bits = length block; ok = not (is_refusal answer) }
 
--- `replay`: a line of a capture is answered as its block is by the rule of its entry, and watchers are shown the block.
+-- `replay`: a line of a capture is answered as its block is by the language of its entry, and watchers are shown the block.
 -- A block line that is none is answered by its fault, and watchers are shown nothing; nor are they of a line that does
 -- not begin with the word of an entry and a space
-pub data CaptureLine (rules : RulesV) (reading : Reading) (line answer : List ℕ) (seen : Option Seen) : Type 0 where
+pub data CaptureLine (languages : Entry → Language) (line answer : List ℕ) (seen : Option Seen) : Type 0 where
   captures_block : (entry : Entry) (block_at : ℕ) (block : List ℕ) → IsCapture line entry block_at
-      → BlockLine (drop block_at line) block → ShowsBlock Text rules (entry_root entry) reading block answer
-      → seen ≡ Some (seen_of entry block answer) → CaptureLine rules reading line answer seen
+      → BlockLine (drop block_at line) block → ShowsBlock Text (languages entry) block answer
+      → seen ≡ Some (seen_of entry block answer) → CaptureLine languages line answer seen
   captures_fault : (entry : Entry) (block_at : ℕ) (fault : BitsFault) → IsCapture line entry block_at
       → IsLineFault (drop block_at line) fault → answer ≡ fault_text fault → seen ≡ None
-      → CaptureLine rules reading line answer seen
+      → CaptureLine languages line answer seen
   no_capture : ((entry : Entry) (block_at : ℕ) → ¬ IsCapture line entry block_at) → answer ≡ codes "bad 5" → seen ≡ None
-      → CaptureLine rules reading line answer seen
+      → CaptureLine languages line answer seen
 
 -- the watchers that are left behind a line, and those that have then counted enough, in their order
 abbrev pub left_behind : Option Seen → List Watched → List Watched
@@ -247,34 +203,7 @@ TellsWatchers answer seen before text after =
     (text ≡ answer ++ LINE_FEED ∷ reports (done_behind seen before)) × (after ≡ left_behind seen before)
 
 -- how a line of `replay` takes the state further
-abbrev pub Replays : RulesV → Reading → LineState → List ℕ → List ℕ → LineState → Type 0
-Replays rules reading before line text after =
-    (answer : List ℕ) × (seen : Option Seen) × CaptureLine rules reading line answer seen
+abbrev pub Replays : (Entry → Language) → LineState → List ℕ → List ℕ → LineState → Type 0
+Replays languages before line text after =
+    (answer : List ℕ) × (seen : Option Seen) × CaptureLine languages line answer seen
     × TellsWatchers answer seen before.watchers text after.watchers × (after.blocks ≡ before.blocks)
-
--- a line is answered so for each rules of which the entries have these descriptions
-abbrev pub CaptureLineBy : List DescV → List ℕ → List ℕ → Option Seen → Type 0
-CaptureLineBy plans line answer seen =
-    (rules : RulesV) (reading : Reading) → AreCompiled rules reading all_entries plans
-    → CaptureLine rules reading line answer seen
-
--- how such a line takes what is kept further
-abbrev pub ReplaysBy : List DescV → Kept → List ℕ → List ℕ → Kept → Type 0
-ReplaysBy plans kept line text kept' =
-    (answer : List ℕ) × (seen : Option Seen) × CaptureLineBy plans line answer seen
-    × TellsWatchers answer seen kept.watchers text kept'.watchers
-
--- what the command of a line does: it goes by the plan of a description, writes old texts anew, joins blocks to
--- messages and goes by the plan of their description, or goes by the plans of all entries of the catalogue
-pub data LineWork : Type 0 where
-  by_plan : RuleCommand → DescV → LineWork
-  renewing : LineWork
-  joining : DescV → LineWork
-  replaying_by : List DescV → LineWork
-
--- what a line gives in this work, and what is kept behind it
-abbrev pub Works : LineWork → Kept → List ℕ → List ℕ → Kept → Type 0
-Works (by_plan command d) = AnswersAlone (AnswersBy command d)
-Works renewing = AnswersAlone MigratesLine
-Works (joining d) = Joins d
-Works (replaying_by plans) = ReplaysBy plans

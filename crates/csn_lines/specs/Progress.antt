@@ -135,11 +135,11 @@ pub record StopsWithin {St : Type 0} (Step : St → List ℕ → List ℕ → St
 
 -- where a job stopped that met a fault, by what the source had given and what was written. No line is
 -- answered that does not end within the limit of an input
-abbrev pub StopsBy : {St : Type 0} → (St → List ℕ → List ℕ → St → Type 0) → St → Fault → List ℕ → List ℕ → Type 0
-StopsBy Step begin Read given text = (length given ≤ MOST_INPUT) × StopsAfter Step begin given text
-StopsBy Step begin Write given text = StopsWithin Step begin (take MOST_INPUT given) text
-StopsBy Step begin Memory given text = StopsWithin Step begin (take MOST_INPUT given) text
-StopsBy Step begin TooLong given text = (length given ≡ MOST_INPUT + 1) × StopsAfter Step begin (take MOST_INPUT given) text
+abbrev pub StopsWhere : {St : Type 0} → (St → List ℕ → List ℕ → St → Type 0) → St → Fault → List ℕ → List ℕ → Type 0
+StopsWhere Step begin Read given text = (length given ≤ MOST_INPUT) × StopsAfter Step begin given text
+StopsWhere Step begin Write given text = StopsWithin Step begin (take MOST_INPUT given) text
+StopsWhere Step begin Memory given text = StopsWithin Step begin (take MOST_INPUT given) text
+StopsWhere Step begin TooLong given text = (length given ≡ MOST_INPUT + 1) × StopsAfter Step begin (take MOST_INPUT given) text
 
 -- a fault stopped a job over the lines of an input
 pub record Stops {St : Type 0} (Step : St → List ℕ → List ℕ → St → Type 0) (begin : St) (fault : Fault)
@@ -150,4 +150,4 @@ pub record Stops {St : Type 0} (Step : St → List ℕ → List ℕ → St → T
   pub few : length given ≤ MOST_INPUT + 1
   pub sink : Appended taken taken' took
   pub keeps_up : KeepsUp Step begin given took
-  pub by : StopsBy Step begin fault given (took ++ waits)
+  pub by : StopsWhere Step begin fault given (took ++ waits)

@@ -4,7 +4,7 @@ use Rattle.csn_lines.specs.declared.lines.Lines.{Lines}
 use Rattle.csn_lines.specs.declared.lines.TheConstants.{CARRIAGE_RETURN}
 use Rattle.csn_lines.specs.Lines.{HasNoFeed, without_return}
 use Rattle.csn_lines.specs.LineState.{Kept}
-use Rattle.csn_lines.specs.OutLine.{LineWork}
+use Rattle.csn_lines.specs.Work.{LineWork}
 
 -- the carriage return that waits, where one does
 abbrev pub return_of : Bool → List ℕ

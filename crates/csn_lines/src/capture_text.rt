@@ -4,8 +4,9 @@ ghost use Rattle.std.specs.Prelude.{◌≡◌, ◌+◌, ◌<◌, ◌≤◌, ◌+
 ghost use Rattle.std.specs.Option.{option_map};
 ghost use Rattle.csn_catalogue.specs.Entries.{entry_place};
 ghost use Rattle.csn_lines.specs.declared.lines.TheConstants.{MOST_INPUT};
+ghost use Rattle.csn_lines.specs.Language.{of_plans};
 ghost use Rattle.csn_lines.specs.Lines.{is_refusal, is_refused};
-ghost use Rattle.csn_lines.specs.OutLine.{CaptureLineBy};
+ghost use Rattle.csn_lines.specs.OutLine.{CaptureLine};
 ghost use Rattle.csn_lines.specs.Replaying.{AreFresh, AreTexts, ReadsCapture, desc_of};
 
 use crate::lines::Answered;
@@ -99,7 +100,7 @@ impl<'a> CaptureText<'a> {
     /// Ends a line: writes what its block is shown as, or why it has none, and tells what watchers are shown.
     pub fn answer(&mut self, out: &mut Vec<u8>) -> Result<(Answered, Option<Seen>), AllocError>
         ensures ok { IfOk result (λ told. (line : List ℕ) → ReadsCapture self.old.writers.items self.old.head line → (answer : List ℕ)
-            × (out.new.items ≡ out.old.items ++ answer) × CaptureLineBy (map desc_of self.old.writers.items) line answer told.1
+            × (out.new.items ≡ out.old.items ++ answer) × CaptureLine (of_plans (map desc_of self.old.writers.items)) line answer told.1
             × (is_refused told.0 ≡ is_refusal answer)) }
         ensures anew { OnOk result ((line : List ℕ) → ReadsCapture self.old.writers.items self.old.head line
             → ReadsCapture self.new.writers.items self.new.head []) }

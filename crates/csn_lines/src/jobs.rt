@@ -1,15 +1,18 @@
 //! Jobs over the lines of an input.
 
-ghost use Rattle.std.specs.Prelude.{◌≡◌, [], IfOk, IfErr, map};
+ghost use Rattle.std.specs.Prelude.{◌≡◌, [], IfOk, IfErr, OnOk, map};
 ghost use Rattle.csn_lines.specs.Ends.{BlamesStreams, end_of};
-ghost use Rattle.csn_lines.specs.LineState.{closing_of};
-ghost use Rattle.csn_lines.specs.OutLine.{Works, replaying_by};
+ghost use Rattle.csn_lines.specs.Jobs.{BeginsJob, LineJob, Steps, beginning};
+ghost use Rattle.csn_lines.specs.Language.{of_plans};
+ghost use Rattle.csn_lines.specs.LineState.{closing};
 ghost use Rattle.csn_lines.specs.Progress.{AnswersAll, Stops};
 ghost use Rattle.csn_lines.specs.Reading.{IsReady};
 ghost use Rattle.csn_lines.specs.Replaying.{ReadsCapture, desc_of};
+ghost use Rattle.csn_lines.specs.Work.{watching};
 
 use crate::capture_text::CaptureText;
 use crate::fault::Fault;
+use crate::laws::plans_do_jobs;
 use crate::lines::{LineCommand, Lines};
 use crate::replay::Replay;
 use csn_io::{Sink, Source};
@@ -28,7 +31,7 @@ fn end_by_lines(refused: bool) -> Ended
     }
 }
 
-/// Answers each line of the input.
+/// Answers each line of the input, in each job that the command begins to do.
 pub fn answer_lines<C: LineCommand, S: Source, K: Sink>(
     alloc: Global,
     command: &mut C,
@@ -39,14 +42,17 @@ pub fn answer_lines<C: LineCommand, S: Source, K: Sink>(
     requires begin { C.reads command.old [] }
     requires ready { IsReady lines.old }
     requires unfailed { K.faults out.old ≡ 0 }
-    ensures ok { IfOk result (λ ended. AnswersAll (Works (C.work command.old)) closing_of (C.kept command.old)
-        (S.left input.old) (S.left input.new) (K.taken out.old) (K.taken out.new)
-        lines.new.pending.items lines.new.refused × (ended ≡ end_of lines.new.refused)) }
-    ensures err { IfErr result (λ fault. Stops (Works (C.work command.old)) (C.kept command.old) fault
-        (S.left input.old) (S.left input.new) (K.taken out.old) (K.taken out.new) lines.new.pending.items) }
+    ensures ok { OnOk result ((job : LineJob) → BeginsJob job (C.work command.old) (C.kept command.old)
+        → AnswersAll (Steps job) closing (beginning job) (S.left input.old) (S.left input.new) (K.taken out.old) (K.taken out.new)
+        lines.new.pending.items lines.new.refused) }
+    ensures end { IfOk result (λ ended. ended ≡ end_of lines.new.refused) }
+    ensures err { IfErr result (λ fault. (job : LineJob) → BeginsJob job (C.work command.old) (C.kept command.old)
+        → Stops (Steps job) (beginning job) fault (S.left input.old) (S.left input.new) (K.taken out.old) (K.taken out.new)
+        lines.new.pending.items) }
     ensures blames { BlamesStreams result (S.steady input.old) (S.steady input.new) (S.faults input.old) (S.faults input.new)
         (K.steady out.old) (K.steady out.new) (K.faults out.old) (K.faults out.new) }
 {
+    plans_do_jobs();
     lines.answer_all(command, alloc, input, out)?;
     Ok(end_by_lines(lines.refused))
 }
@@ -63,13 +69,15 @@ pub fn answer_captures<S: Source, K: Sink>(
     requires begin { ReadsCapture text.writers.items text.head [] }
     requires ready { IsReady lines.old }
     requires unfailed { K.faults out.old ≡ 0 }
-    ensures ok { IfOk result (λ ended. AnswersAll (Works (replaying_by (map desc_of text.entry.writers.items))) closing_of
+    ensures ok { OnOk result ((job : LineJob) → BeginsJob job (watching (of_plans (map desc_of text.entry.writers.items)))
         (record { bodies = []; watchers = map (λ b. watched b) watchers.items })
-        (S.left input.old) (S.left input.new) (K.taken out.old) (K.taken out.new)
-        lines.new.pending.items lines.new.refused × (ended ≡ end_of lines.new.refused)) }
-    ensures err { IfErr result (λ fault. Stops (Works (replaying_by (map desc_of text.entry.writers.items)))
-        (record { bodies = []; watchers = map (λ b. watched b) watchers.items }) fault
-        (S.left input.old) (S.left input.new) (K.taken out.old) (K.taken out.new) lines.new.pending.items) }
+        → AnswersAll (Steps job) closing (beginning job) (S.left input.old) (S.left input.new) (K.taken out.old) (K.taken out.new)
+        lines.new.pending.items lines.new.refused) }
+    ensures end { IfOk result (λ ended. ended ≡ end_of lines.new.refused) }
+    ensures err { IfErr result (λ fault. (job : LineJob) → BeginsJob job (watching (of_plans (map desc_of text.entry.writers.items)))
+        (record { bodies = []; watchers = map (λ b. watched b) watchers.items })
+        → Stops (Steps job) (beginning job) fault (S.left input.old) (S.left input.new) (K.taken out.old) (K.taken out.new)
+        lines.new.pending.items) }
     ensures blames { BlamesStreams result (S.steady input.old) (S.steady input.new) (S.faults input.old) (S.faults input.new)
         (K.steady out.old) (K.steady out.new) (K.faults out.old) (K.faults out.new) }
 {

@@ -2,6 +2,7 @@
 
 ghost use Rattle.csn_lines.specs.Known.{Known};
 ghost use Rattle.csn_lines.specs.Laws.{FormsAreShownTogether, FormsShowOneTree, JobsHaveAnswers, JobsHaveOneAnswer};
+ghost use Rattle.csn_lines.specs.Laws.{PlansDoJobs, RulesAndPlansAgree};
 
 /// What the laws of the crates below say of lines and their answers, as lemmas take it.
 pub fn known()
@@ -32,6 +33,14 @@ pub fn known()
     csn_json::laws::trees_are_not_refused();
     csn_json::laws::written_is_shown();
     csn_replay::laws::heads_tell_captures();
+}
+
+/// A rule and its certified description are of one language, so a job gives by plans what it gives by its rules.
+pub fn plans_do_jobs()
+    ensures agree { RulesAndPlansAgree }
+    ensures same { PlansDoJobs }
+{
+    known();
 }
 
 /// Each line has one answer, in each job over lines whose rules have plans.

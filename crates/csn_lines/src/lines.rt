@@ -10,7 +10,7 @@ ghost use Rattle.csn_lines.specs.Lines.{HasNoFeed, without_return, is_refusal, i
 ghost use Rattle.csn_lines.specs.Reading.{AtLine, IsFresh, OnlyGives, return_of};
 ghost use Rattle.csn_lines.specs.Progress.{AddsAnswers, Advances, Closes, Halts, PassesOn, HaltsAt, AnswersAll, Stops};
 ghost use Rattle.csn_lines.specs.LineState.{closing_of};
-ghost use Rattle.csn_lines.specs.OutLine.{Works};
+ghost use Rattle.csn_lines.specs.Work.{Works};
 
 use crate::fault::Fault;
 use crate::output::pass_on;
@@ -46,7 +46,7 @@ pub type LineResult = Result<Answered, AllocError>;
 /// lines before it.
 pub trait LineCommand {
     ghost use Rattle.csn_lines.specs.LineState.{Kept};
-    ghost use Rattle.csn_lines.specs.OutLine.{LineWork};
+    ghost use Rattle.csn_lines.specs.Work.{LineWork};
 
     /// What it does.
     ghost work: { Self → LineWork };

@@ -8,7 +8,8 @@ ghost use Rattle.csn_treetext.specs.declared.version.Version.TheVariants.{First,
 ghost use Rattle.csn_lines.specs.declared.lines.TheConstants.{MOST_INPUT};
 ghost use Rattle.csn_lines.specs.LineState.{nothing_kept};
 ghost use Rattle.csn_lines.specs.Lines.{is_refusal, is_refused};
-ghost use Rattle.csn_lines.specs.OutLine.{MigratesLine, renewing};
+ghost use Rattle.csn_lines.specs.OutLine.{MigratesLine};
+ghost use Rattle.csn_lines.specs.Work.{renewing};
 
 use crate::answers::answer_text_fault;
 use crate::lines::{Answered, LineResult};

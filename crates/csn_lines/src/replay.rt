@@ -1,8 +1,9 @@
 //! Lines of `replay`: a line of a capture in, what its block is shown as and the reports of watchers out.
 
 ghost use Rattle.std.specs.Prelude.{◌≡◌, ◌++◌, [], List, ℕ, length, map, IfOk};
-ghost use Rattle.csn_lines.specs.OutLine.{replaying_by};
+ghost use Rattle.csn_lines.specs.Language.{of_plans};
 ghost use Rattle.csn_lines.specs.Replaying.{ReadsCapture, desc_of};
+ghost use Rattle.csn_lines.specs.Work.{watching};
 
 use crate::capture_text::CaptureText;
 use crate::lines::{LINE_FEED, LineCommand, LineResult};
@@ -23,7 +24,7 @@ pub struct Replay<'a> {
 }
 
 impl LineCommand for Replay<'_> {
-    ghost work = { λ s. replaying_by (map desc_of s.text.writers.items) };
+    ghost work = { λ s. watching (of_plans (map desc_of s.text.writers.items)) };
 
     ghost kept = { λ s. record { bodies = []; watchers = map (λ b. (Watcher-box b).watched b.value) s.watchers.items } };
 

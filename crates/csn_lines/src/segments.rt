@@ -3,7 +3,9 @@
 ghost use Rattle.std.specs.Prelude.{◌≡◌, ◌≤◌, ◌++◌, [], List, ℕ, length, IfOk, OnErr};
 ghost use Rattle.csn_lines.specs.declared.lines.TheConstants.{MOST_INPUT};
 ghost use Rattle.csn_lines.specs.Lines.{is_refusal, is_refused};
-ghost use Rattle.csn_lines.specs.OutLine.{AnswersJoinedBy, JoinsLine, joining, segment_fault};
+ghost use Rattle.csn_lines.specs.Language.{of_plan};
+ghost use Rattle.csn_lines.specs.OutLine.{AnswersJoined, segment_fault};
+ghost use Rattle.csn_lines.specs.Work.{JoinsLine, joining};
 
 use crate::lines::{Answered, LineResult};
 use crate::show::{answer_fault, show_block};
@@ -40,7 +42,7 @@ fn fault_number(why: SegmentWhy) -> u32
 /// Answers a block by what the joiner gives for it.
 fn answer_joined(alloc: Global, plan: &TextPlan, joined: &Joined, out: &mut Vec<u8>) -> LineResult
     ensures ok { IfOk result (λ answered. (answer : List ℕ) × (out.new.items ≡ out.old.items ++ answer)
-        × AnswersJoinedBy plan.now joined.now answer × (is_refused answered ≡ is_refusal answer)) }
+        × AnswersJoined (of_plan plan.now) joined.now answer × (is_refused answered ≡ is_refusal answer)) }
     ensures err { OnErr result ((tail : List ℕ) × (out.new.items ≡ out.old.items ++ tail)) }
 {
     match joined {
@@ -74,7 +76,7 @@ fn segments_line(
 ) -> LineResult
     requires fits { length line.now ≤ MOST_INPUT }
     ensures ok { IfOk result (λ answered. (answer : List ℕ) × (out.new.items ≡ out.old.items ++ answer)
-        × JoinsLine plan.now joiner.old line.now answer joiner.new × (is_refused answered ≡ is_refusal answer)) }
+        × JoinsLine (of_plan plan.now) joiner.old line.now answer joiner.new × (is_refused answered ≡ is_refusal answer)) }
     ensures err { OnErr result ((tail : List ℕ) × (out.new.items ≡ out.old.items ++ tail)) }
 {
     let bits = match Bits::from_hex_line(alloc, line) {
@@ -93,7 +95,7 @@ fn segments_line(
 }
 
 impl WholeLineCommand for Segments<'_> {
-    ghost work = { λ s. joining s.plan.now };
+    ghost work = { λ s. joining (of_plan s.plan.now) };
 
     ghost kept = { λ s. record { bodies = s.joiner; watchers = [] } };
 

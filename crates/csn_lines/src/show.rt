@@ -5,9 +5,10 @@ ghost use Rattle.csn_command.specs.declared.command.RuleCommand.{RuleCommand};
 ghost use Rattle.csn_lines.specs.LineState.{nothing_kept};
 ghost use Rattle.csn_lines.specs.Lines.{is_refusal, is_refused};
 ghost use Rattle.csn_movetext.specs.Lines.{ReadsLine};
-ghost use Rattle.csn_lines.specs.OutLine.{ShowsAs, ShowsBlockBy, by_plan, fault_text, refusal_text};
+ghost use Rattle.csn_lines.specs.Language.{of_plan};
+ghost use Rattle.csn_lines.specs.OutLine.{ShowsAs, ShowsBlock, fault_text, refusal_text};
+ghost use Rattle.csn_lines.specs.Work.{answering};
 
-use crate::laws::known;
 use crate::lines::{Answered, LINE_FEED, LineCommand, LineResult};
 use csn_bits::{Bits, BitsFault};
 use csn_movetext::{BlockFault, LineEnd, LineText, TreeForm};
@@ -62,10 +63,9 @@ pub(crate) fn answer_fault(fault: BitsFault, out: &mut Vec<u8>) -> Result<(), Al
 /// block is refused.
 pub fn show_block(plan: &TextPlan, form: TreeForm, bits: &Bits, out: &mut Vec<u8>) -> LineResult
     ensures ok { IfOk result (λ answered. (answer : List ℕ) × (out.new.items ≡ out.old.items ++ answer)
-        × ShowsBlockBy form plan.now bits.now answer × (is_refused answered ≡ is_refusal answer)) }
+        × ShowsBlock form (of_plan plan.now) bits.now answer × (is_refused answered ≡ is_refusal answer)) }
     ensures err { OnErr result ((tail : List ℕ) × (out.new.items ≡ out.old.items ++ tail)) }
 {
-    known();
     let start = out.len();
     out.extend_from_slice(b"ok ")?;
     match plan.write(form, bits, out) {
@@ -84,13 +84,12 @@ pub(crate) fn answer_line(
     out: &mut Vec<u8>,
 ) -> Result<(Answered, Option<u32>), AllocError>
     ensures ok { IfOk result (λ told. (line : List ℕ) → ReadsLine text.old line → (answer : List ℕ) × (out.new.items ≡ out.old.items ++ answer)
-        × ShowsAs text.old.form text.old.desc line answer told.1 × (is_refused told.0 ≡ is_refusal answer)) }
+        × ShowsAs text.old.form (of_plan text.old.desc) line answer told.1 × (is_refused told.0 ≡ is_refusal answer)) }
     ensures anew { OnOk result (ReadsLine text.new []) }
     ensures form { text.new.form ≡ text.old.form }
     ensures desc { text.new.desc ≡ text.old.desc }
     ensures err { OnErr result ((line : List ℕ) → ReadsLine text.old line → (tail : List ℕ) × (out.new.items ≡ out.old.items ++ tail)) }
 {
-    known();
     let start = out.len();
     out.extend_from_slice(b"ok ")?;
     match text.end(out)? {
@@ -127,8 +126,7 @@ impl ShowLines<'_> {
 }
 
 impl LineCommand for ShowLines<'_> {
-    // A line is answered for each rule that has the description.
-    ghost work = { λ s. by_plan (RuleCommand.Show s.text.form) s.text.desc };
+    ghost work = { λ s. answering (RuleCommand.Show s.text.form) (of_plan s.text.desc) };
 
     ghost kept = { λ _. nothing_kept };
 

@@ -4,7 +4,7 @@ ghost use Rattle.std.specs.Prelude.{◌≡◌, ◌<◌, ◌≤◌, ◌++◌, ◌
 ghost use Rattle.csn_lines.specs.declared.lines.TheConstants.{LINE_FEED, MOST_INPUT};
 ghost use Rattle.csn_lines.specs.Lines.{is_refusal, is_refused};
 ghost use Rattle.csn_lines.specs.LineState.{closing_of};
-ghost use Rattle.csn_lines.specs.OutLine.{Works};
+ghost use Rattle.csn_lines.specs.Work.{Works};
 
 use crate::lines::{LINE_FEED, LineCommand, LineResult};
 use std::alloc::{AllocError, Global};
@@ -12,7 +12,7 @@ use std::alloc::{AllocError, Global};
 /// A command that answers each line of the input as a whole. The answer may depend on the lines before it.
 pub trait WholeLineCommand {
     ghost use Rattle.csn_lines.specs.LineState.{Kept};
-    ghost use Rattle.csn_lines.specs.OutLine.{LineWork};
+    ghost use Rattle.csn_lines.specs.Work.{LineWork};
 
     /// What it does.
     ghost work: { Self → LineWork };

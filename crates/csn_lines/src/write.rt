@@ -11,7 +11,9 @@ ghost use Rattle.csn_lines.specs.declared.lines.TheConstants.{MOST_INPUT};
 ghost use Rattle.csn_plan.specs.Compiled.{line_of};
 ghost use Rattle.csn_lines.specs.LineState.{nothing_kept};
 ghost use Rattle.csn_lines.specs.Lines.{is_refusal, is_refused};
-ghost use Rattle.csn_lines.specs.OutLine.{AnswersBy, Reads, TellsJsonFault, by_plan, misfit_text, path_text, why_text};
+ghost use Rattle.csn_lines.specs.Language.{of_plan};
+ghost use Rattle.csn_lines.specs.OutLine.{Reads, TellsJsonFault, WritesLine, misfit_text, path_text, why_text};
+ghost use Rattle.csn_lines.specs.Work.{answering};
 
 use crate::answers::answer_text_fault;
 use crate::laws::known;
@@ -23,7 +25,7 @@ use csn_desc::Tree;
 use csn_encode::{EncodeFault, Misfit, MisfitWhy, Path, encode, encode_json, encode_text};
 use csn_json::{JsonFault, read_json};
 use csn_movetext::TreeForm;
-use csn_plan::{push_number, push_numbers};
+use csn_plan::{TextPlan, push_number, push_numbers};
 use csn_treetext::read_tree;
 use std::alloc::{AllocError, Global};
 use std::marker::Brand;
@@ -220,10 +222,9 @@ fn write_by_tree(
 ) -> LineResult
     requires fits { length line.now ≤ MOST_INPUT }
     ensures ok { IfOk result (λ answered. (answer : List ℕ) × (out.new.items ≡ out.old.items ++ answer)
-        × AnswersBy (RuleCommand.Write form) plan.now line.now answer × (is_refused answered ≡ is_refusal answer)) }
+        × WritesLine form (of_plan plan.now) line.now answer × (is_refused answered ≡ is_refusal answer)) }
     ensures err { OnErr result ((tail : List ℕ) × (out.new.items ≡ out.old.items ++ tail)) }
 {
-    known();
     let Some(tree) = tree_of_line(alloc, form, line, out)? else {
         return Ok(Answered::Refused);
     };
@@ -234,19 +235,22 @@ fn write_by_tree(
 /// tells.
 fn write_line(
     alloc: Global,
-    plan: &Plan,
+    plan: &TextPlan,
     form: TreeForm,
     line: &[u8],
     out: &mut Vec<u8>,
 ) -> Result<Answered, AllocError>
     requires fits { length line.now ≤ MOST_INPUT }
     ensures ok { IfOk result (λ answered. (answer : List ℕ) × (out.new.items ≡ out.old.items ++ answer)
-        × AnswersBy (RuleCommand.Write form) plan.now line.now answer × (is_refused answered ≡ is_refusal answer)) }
+        × WritesLine form (of_plan plan.now) line.now answer × (is_refused answered ≡ is_refusal answer)) }
     ensures err { OnErr result ((tail : List ℕ) × (out.new.items ≡ out.old.items ++ tail)) }
 {
     known();
-    let Some(bits) = block_of_line(alloc, plan, form, line) else {
-        return write_by_tree(alloc, plan, form, line, out);
+    let certified = plan.plan();
+    // its length tells that it is of a description
+    let _count = certified.len();
+    let Some(bits) = block_of_line(alloc, certified, form, line) else {
+        return write_by_tree(alloc, certified, form, line, out);
     };
     answer_block(alloc, &bits, out)?;
     Ok(Answered::Given)
@@ -256,12 +260,11 @@ fn write_line(
 #[derive(Drop)]
 pub struct WriteLines<'a> {
     pub form: TreeForm,
-    pub plan: &'a Plan,
+    pub plan: &'a TextPlan,
 }
 
 impl WholeLineCommand for WriteLines<'_> {
-    // A line is answered for each rule that has the description.
-    ghost work = { λ s. by_plan (RuleCommand.Write s.form) s.plan.now };
+    ghost work = { λ s. answering (RuleCommand.Write s.form) (of_plan s.plan.now) };
 
     ghost kept = { λ _. nothing_kept };
 

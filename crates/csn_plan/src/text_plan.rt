@@ -1,6 +1,8 @@
 //! A plan by which blocks are shown as trees, in either form.
 
-ghost use Rattle.std.specs.Prelude.{◌≡◌, ◌<◌, [], IfOk, IfErr, OnOk, OnErr};
+ghost use Rattle.std.specs.Prelude.{◌≡◌, ◌<◌, ℕ, List, [], Some, slice_get, IfOk, IfErr, OnOk, OnErr};
+ghost use Rattle.csn_desc.specs.declared.node.Node.TheVariants.{Named};
+ghost use Rattle.csn_desc.specs.Label.{IsLabel};
 ghost use Rattle.csn_movetext.specs.Blocks.{AddsText, IsFaultOf};
 ghost use Rattle.csn_movetext.specs.Lines.{ReadsLine};
 ghost use Rattle.csn_movetext.specs.Openings.{HasOpenings};
@@ -72,9 +74,10 @@ impl TextPlan {
         })
     }
 
-    /// The plan alone.
+    /// The plan alone, whose labels are labels.
     pub fn plan(&self) -> &Plan
-        ensures { result.now ≡ self.now }
+        ensures plan { result.now ≡ self.now }
+        ensures labels { (i part : ℕ) (label : List ℕ) → slice_get self.now.nodes i ≡ Some (Named label part) → IsLabel label }
     {
         &self.forms.plan
     }

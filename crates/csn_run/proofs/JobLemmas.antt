@@ -1,6 +1,6 @@
 -- How jobs are over.
 use Rattle.std.proofs.Common.{◌≡◌, ℕ, ◌+◌, ◌<◌, ◌≤◌, ◌⊎◌, Bool, inl, inr, List, [], ◌∷◌, ◌++◌, length, map, Option}
-use Rattle.std.proofs.Common.{Some, None, Result, Ok, Err, IfOk, IfErr, refl, sym, ◌∙◌, ap, subst, take, arith}
+use Rattle.std.proofs.Common.{Some, None, Result, Ok, Err, IfOk, IfErr, OnOk, refl, sym, ◌∙◌, ap, subst, take, arith}
 use Rattle.std.specs.List.{AllByRecursion}
 use Rattle.std.specs.Option.{option_map}
 use Rattle.std.proofs.lemmas.List.{length-take, map-append, take_all}
@@ -8,9 +8,7 @@ use Rattle.csn_catalogue.specs.declared.entry.Entry.{Entry}
 use Rattle.csn_catalogue.specs.declared.entry.Entry.TheVariants.{Downlink}
 use Rattle.csn_catalogue.specs.Entries.{all_entries, entry_root}
 use Rattle.csn_catalogue.specs.Text.{catalogue_text}
-use Rattle.csn_replay.specs.Watched.{Watched, reports}
-use Rattle.csn_segment.specs.Joining.{JoinsFor}
-use Rattle.csn_lines.specs.OutLine.{TellsWatchers, Replays, ReplaysBy, Segments, Joins}
+use Rattle.csn_replay.specs.Watched.{Watched}
 use Rattle.csn_desc.specs.declared.reading.Reading.{Reading}
 use Rattle.csn_desc.specs.declared.reading.Reading.TheVariants.{Sent}
 use Rattle.csn_soak.specs.declared.soaking.Soaked.{Soaked}
@@ -31,7 +29,7 @@ use Rattle.csn_lines.specs.declared.fault.Fault.{Fault}
 use Rattle.csn_lines.specs.declared.fault.Fault.TheVariants.{Read, Write, Memory, TooLong}
 use Rattle.csn_run.specs.declared.planned.Unplanned.{Unplanned}
 use Rattle.csn_run.specs.declared.planned.Unplanned.TheVariants.{File, Text}
-use Rattle.csn_lines.specs.LineState.{LineState, Kept, closing, closing_of}
+use Rattle.csn_lines.specs.LineState.{Kept, closing}
 use Rattle.csn_lines.specs.Progress.{AnswersAll, Stops}
 use Rattle.csn_command.specs.declared.command.RuleCommand.{RuleCommand}
 use Rattle.csn_command.specs.declared.command.RuleReport.{RuleReport}
@@ -41,8 +39,8 @@ use Rattle.csn_plan.specs.Compiled.{RuleOf, rule_of_entry, IsCompiled, HasNoPlan
 use Rattle.csn_run.specs.Told.{soaked_line}
 use Rattle.csn_run.specs.Planned.{IsPlanned, IsWhy, Refuses}
 use Rattle.csn_run.specs.Job.{IsDescription, IsWhole, IsBeforeLines, Asked, EndedBefore, JobEnds, unread, before_lines, all_lines, some_lines}
-use Rattle.csn_run.proofs.Following.{Follows, all_follow, stops_follow, Watches}
-use Rattle.csn_lines.specs.Jobs.{LineJob, by_rule, migrating, Steps, beginning, segmenting, replaying}
+use Rattle.csn_lines.specs.Jobs.{BeginsJob, LineJob, by_rule, migrating, Steps, beginning, segmenting, replaying}
+use Rattle.csn_lines.specs.Work.{LineWork}
 use Rattle.csn_lines.specs.Ends.{end_of}
 use Rattle.csn_run.specs.Result.{asks_by_rule, asks_migrate, asks_segments, Compiles, of_file, of_catalogue}
 use Rattle.csn_run.specs.Result.{long_text, no_plan, no_job, Reports, reported, soaked, asks_replay}
@@ -204,24 +202,6 @@ pub asked_segments :
 asked_segments words None watchers reading rules d row fits is = tt
 asked_segments words (Some files) watchers reading rules d row fits is = asks_segments reading rules d row fits is refl
 
--- the bodies that a command keeps are those that wait behind the blocks before
-pub record KeepsBodies (kept : Kept) (state : LineState) : Type 0 where
-  pub joins : JoinsFor kept.bodies state.blocks
-  pub watches : kept.watchers ≡ state.watchers
-
-pub keeps_close : (kept : Kept) (state : LineState) → KeepsBodies kept state → closing_of kept ≡ closing state
-keeps_close kept state is = ap reports is.watches
-
-pub joins_follow :
-    (d : DescV) (text : List ℕ) (rules : RulesV) (reading : Reading) → IsCompiled text (entry_root Downlink) reading rules d
-    → Follows KeepsBodies (Joins d) (Segments rules reading)
-joins_follow d source rules reading compiled kept line text kept' h before is =
-    let next = h.1 before.blocks is.joins in (
-      record { blocks = next.0; watchers = before.watchers },
-      (h.0, next.2 source rules reading compiled, h.2, refl),
-      record { joins = next.1; watches = h.3 ∙ is.watches },
-    )
-
 -- what `replay` compiles
 pub replay_compiles :
     (words : List (List ℕ)) (files : List ℕ → Option (List ℕ)) (reading : Reading) (front : List Entry) (entry : Entry) (behind : List Entry)
@@ -240,32 +220,21 @@ pub asked_replay :
 asked_replay words None watchers reading rules plans row fits are = tt
 asked_replay words (Some files) watchers reading rules plans row fits are = asks_replay reading rules plans row fits are refl
 
-pub replays_follow : (plans : List DescV) (rules : RulesV) (reading : Reading)
-    → AreCompiled rules reading all_entries plans → Follows Watches (ReplaysBy plans) (Replays rules reading)
-replays_follow plans rules reading compiled kept line text kept' h before is = (
-  record { blocks = before.blocks; watchers = kept'.watchers },
-  (h.0, h.1, h.2 rules reading compiled, subst (λ w. TellsWatchers h.0 h.1 w text kept'.watchers) is h.3, refl),
-  refl,
-)
-
 -- ---- ends of jobs
 
 -- the job is over with its lines
 pub lines_end :
-    (Stands : Kept → LineState → Type 0) (A : Kept → List ℕ → List ℕ → Kept → Type 0) (kept : Kept)
     (words : List (List ℕ)) (files : Option (List ℕ → Option (List ℕ))) (watchers : List Watched) (job : LineJob)
-    (left left' taken taken' : Option (List ℕ)) (waits : List ℕ) (refused : Bool) (end : Result Ended Fault)
-    → Asked words files watchers job → Follows Stands A (Steps job)
-    → ((kept : Kept) (state : LineState) → Stands kept state → closing_of kept ≡ closing state)
-    → Stands kept (beginning job)
-    → IfOk end (λ ended. AnswersAll A closing_of kept left left' taken taken' waits refused × (ended ≡ end_of refused))
-    → IfErr end (λ fault. Stops A kept fault left left' taken taken' waits) → JobEnds words files watchers left left' taken taken' waits end
-lines_end Stands A kept words files watchers job left left' taken taken' waits refused (Ok ended)
-    asked follows closes is ok err = all_lines job refused asked (all_follow Stands A (Steps job) follows kept
-    (beginning job) is closes ok.0) (ap Ok ok.1)
-lines_end Stands A kept words files watchers job left left' taken taken' waits refused (Err fault)
-    asked follows closes is ok err = some_lines job fault asked (stops_follow Stands A (Steps job) follows kept
-    (beginning job) is fault err) refl
+    {work : LineWork} {kept : Kept} (left left' taken taken' : Option (List ℕ)) (waits : List ℕ) (refused : Bool) (end : Result Ended Fault)
+    → Asked words files watchers job
+    → OnOk end ((job : LineJob) → BeginsJob job work kept → AnswersAll (Steps job) closing (beginning job) left left' taken taken' waits refused)
+    → IfOk end (λ ended. ended ≡ end_of refused)
+    → IfErr end (λ fault. (job : LineJob) → BeginsJob job work kept → Stops (Steps job) (beginning job) fault left left' taken taken' waits)
+    → BeginsJob job work kept → JobEnds words files watchers left left' taken taken' waits end
+lines_end words files watchers job left left' taken taken' waits refused (Ok ended) asked ok ends err begins =
+    all_lines job refused asked (ok job begins) (ap Ok ends)
+lines_end words files watchers job left left' taken taken' waits refused (Err fault) asked ok ends err begins =
+    some_lines job fault asked (err job begins) refl
 
 -- the job of a report is over by a plan
 pub report_ends :

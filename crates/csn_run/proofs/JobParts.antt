@@ -32,25 +32,25 @@ streams_alone never = record { touches = inl refl; before_lines = λ ended. refl
 
 -- where all lines were answered, the job is not over before them
 not_before :
-    (A : Type 0) (refused : Bool) (end : Result Ended Fault) → IfOk end (λ ended. A × (ended ≡ end_of refused))
+    (refused : Bool) (end : Result Ended Fault) → IfOk end (λ ended. ended ≡ end_of refused)
     → (end ≡ Ok BadDescription) ⊎ (end ≡ Ok NotCertified) → ⊥
-not_before A refused (Err fault) ok (inl e) = cc
-not_before A refused (Err fault) ok (inr e) = cc
-not_before A true (Ok ended) ok (inl e) = let is : ended ≡ SomeRefused = ok.1 in cc
-not_before A true (Ok ended) ok (inr e) = let is : ended ≡ SomeRefused = ok.1 in cc
-not_before A false (Ok ended) ok (inl e) = let is : ended ≡ Done = ok.1 in cc
-not_before A false (Ok ended) ok (inr e) = let is : ended ≡ Done = ok.1 in cc
+not_before refused (Err fault) ok (inl e) = cc
+not_before refused (Err fault) ok (inr e) = cc
+not_before true (Ok ended) ok (inl e) = let is : ended ≡ SomeRefused = ok in cc
+not_before true (Ok ended) ok (inr e) = let is : ended ≡ SomeRefused = ok in cc
+not_before false (Ok ended) ok (inl e) = let is : ended ≡ Done = ok in cc
+not_before false (Ok ended) ok (inr e) = let is : ended ≡ Done = ok in cc
 
 -- a job that comes to its lines
 pub streams_of_lines :
     {S K : Type 0} {sources : Sources S} {sinks : Sinks K} {end : Result Ended Fault} {source source' : S} {sink sink' : K} {comes : Type 0}
-    → comes → (A : Type 0) (refused : Bool) → IfOk end (λ ended. A × (ended ≡ end_of refused))
+    → comes → (refused : Bool) → IfOk end (λ ended. ended ≡ end_of refused)
     → BlamesStreams end (sources.steady source) (sources.steady source') (sources.faults source) (sources.faults source')
     (sinks.steady sink) (sinks.steady sink') (sinks.faults sink) (sinks.faults sink')
     → LeavesStreams sources sinks end source source' sink sink' comes
-streams_of_lines {end = end} comes A refused ok blames = record {
+streams_of_lines {end = end} comes refused ok blames = record {
   touches = inr comes;
-  before_lines = λ before. absurd (not_before A refused end ok before);
+  before_lines = λ before. absurd (not_before refused end ok before);
   write = blames.write;
   input = blames.input;
   out = blames.out;

@@ -4,7 +4,6 @@ pub mod AskedJobs
 pub mod CertificateTexts
 pub mod CommandLemmas
 pub mod Extends
-pub mod Following
 pub mod JobLemmas
 pub mod JobParts
 pub mod NoFaults

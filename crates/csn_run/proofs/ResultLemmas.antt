@@ -14,7 +14,7 @@ use Rattle.csn_plan.specs.declared.ended.Ended.TheVariants.{ReadFault, WriteFaul
 use Rattle.csn_lines.specs.declared.fault.Fault.{Fault}
 use Rattle.csn_lines.specs.declared.fault.Fault.TheVariants.{Read, Write, Memory, TooLong}
 use Rattle.csn_lines.specs.declared.lines.TheConstants.{MOST_INPUT}
-use Rattle.csn_lines.specs.Progress.{EndsIn, KeepsUp, StopsBy}
+use Rattle.csn_lines.specs.Progress.{EndsIn, KeepsUp, StopsWhere}
 use Rattle.csn_command.specs.Command.{ReadsLines, leaves_report, leaves_soak, leaves_compat, leaves_verify}
 use Rattle.csn_run.specs.Known.{KnownOfTexts}
 use Rattle.csn_plan.specs.Compiled.{no_rules, rules_refused, not_certified}
@@ -248,7 +248,7 @@ module _ (words : List (List ℕ)) (files : List ℕ → Option (List ℕ)) (wat
       (λ rest. whole.while_reading (record {
         job = job;
         asked = asked;
-        stopped = (subst (λ (f : Fault). StopsBy (Steps job) (beginning job) f s.given (s.took ++ waits)) is_read s.by).1;
+        stopped = (subst (λ (f : Fault). StopsWhere (Steps job) (beginning job) f s.given (s.took ++ waits)) is_read s.by).1;
       }))
     where
       is_read_end : (cause : Fault) → ReadFault ≡ end_by cause → cause ≡ Read

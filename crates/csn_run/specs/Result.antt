@@ -35,6 +35,7 @@ use Rattle.csn_lines.specs.Lines.{between_feeds}
 use Rattle.csn_lines.specs.Jobs.{LineJob, by_rule, migrating, segmenting, replaying, Steps, beginning}
 use Rattle.csn_lines.specs.LineState.{LineState, closing}
 use Rattle.csn_json.specs.declared.form.TreeForm.TheVariants.{Text}
+use Rattle.csn_lines.specs.Language.{of_rule}
 use Rattle.csn_lines.specs.OutLine.{ShowsLine}
 use Rattle.csn_lines.specs.Progress.{Answers, EndsIn, KeepsUp, StopsAfter}
 
@@ -213,8 +214,8 @@ RulesHaveOneTree words files =
 -- answers by one
 pub record BlocksStay (rules others : RulesV) (name : List ℕ) (reading : Reading) : Type 0 where
   pub strings : (b : List ℕ) (t : TreeV) → Strings rules name reading b t → (u : TreeV) × Strings others name reading b u
-  pub shown : (line text : List ℕ) → ShowsLine Text rules name reading line (codes "ok " ++ text)
-      → (other : List ℕ) × ShowsLine Text others name reading line (codes "ok " ++ other)
+  pub shown : (line text : List ℕ) → ShowsLine Text (of_rule rules name reading) line (codes "ok " ++ text)
+      → (other : List ℕ) × ShowsLine Text (of_rule others name reading) line (codes "ok " ++ other)
 
 -- so it is with the rule of the old file and that of the new one, where the words are `compat`
 abbrev pub OldBlocksStay : List (List ℕ) → (List ℕ → Option (List ℕ)) → Type 0

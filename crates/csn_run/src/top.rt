@@ -8,9 +8,10 @@ ghost use Rattle.csn_command.specs.Command.{IsCommand, IsReplay, IsRowOf, IsSegm
 ghost use Rattle.csn_lines.specs.Ends.{BlamesStreams, end_of};
 ghost use Rattle.csn_lines.specs.Progress.{AnswersAll, Stops};
 ghost use Rattle.csn_lines.specs.Reading.{IsReady};
-ghost use Rattle.csn_lines.specs.LineState.{closing_of, nothing_kept};
-ghost use Rattle.csn_lines.specs.OutLine.{Works, by_plan};
-ghost use Rattle.csn_lines.specs.Jobs.{LineJob};
+ghost use Rattle.csn_lines.specs.Jobs.{BeginsJob, LineJob, Steps, beginning};
+ghost use Rattle.csn_lines.specs.Language.{of_plan};
+ghost use Rattle.csn_lines.specs.LineState.{closing, nothing_kept};
+ghost use Rattle.csn_lines.specs.Work.{answering};
 ghost use Rattle.csn_run.specs.Outside.{CannotRead, GoesByFiles, HasTakenFew, IsAskedToFlush, IsFlushed, KeepsShelf, KeepsSink};
 ghost use Rattle.csn_run.specs.Outside.{LeftByFetch, NamesNone, NamesSome, OverFiles, SinkFails, SourceFails};
 ghost use Rattle.csn_run.specs.Job.{Asked, AsksFiles, EndsUnread, FetchesInOrder, JobEnds, LeavesStreams, end_with};
@@ -75,11 +76,13 @@ fn answer_by_plan<S: Source, K: Sink>(
 ) -> Result<Ended, Fault>
     requires ready { IsReady lines.old }
     requires unfailed { K.faults out.old ≡ 0 }
-    ensures ok { IfOk result (λ ended. AnswersAll (Works (by_plan command plan.now)) closing_of nothing_kept
-        (S.left input.old) (S.left input.new) (K.taken out.old) (K.taken out.new)
-        lines.new.pending.items lines.new.refused × (ended ≡ end_of lines.new.refused)) }
-    ensures err { IfErr result (λ fault. Stops (Works (by_plan command plan.now)) nothing_kept fault
-        (S.left input.old) (S.left input.new) (K.taken out.old) (K.taken out.new) lines.new.pending.items) }
+    ensures ok { OnOk result ((job : LineJob) → BeginsJob job (answering command (of_plan plan.now)) nothing_kept
+        → AnswersAll (Steps job) closing (beginning job) (S.left input.old) (S.left input.new) (K.taken out.old) (K.taken out.new)
+        lines.new.pending.items lines.new.refused) }
+    ensures end { IfOk result (λ ended. ended ≡ end_of lines.new.refused) }
+    ensures err { IfErr result (λ fault. (job : LineJob) → BeginsJob job (answering command (of_plan plan.now)) nothing_kept
+        → Stops (Steps job) (beginning job) fault (S.left input.old) (S.left input.new) (K.taken out.old) (K.taken out.new)
+        lines.new.pending.items) }
     ensures blames { BlamesStreams result (S.steady input.old) (S.steady input.new) (S.faults input.old) (S.faults input.new)
         (K.steady out.old) (K.steady out.new) (K.faults out.old) (K.faults out.new) }
 {
@@ -89,7 +92,6 @@ fn answer_by_plan<S: Source, K: Sink>(
             answer_lines(alloc, &mut command, input, out, lines)
         }
         RuleCommand::Write(form) => {
-            let plan = plan.plan();
             let mut command = WholeLines::new(alloc, WriteLines { form, plan });
             answer_lines(alloc, &mut command, input, out, lines)
         }

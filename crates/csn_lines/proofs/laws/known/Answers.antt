@@ -19,6 +19,7 @@ returns c =
         some_place = c.blocks_have_one_place.ensures.some;
         one_tree = c.blocks_have_one_tree.ensures;
         fit = c.trees_have_texts.ensures.fits;
+        texts = c.trees_have_texts.ensures.texts;
       };
       of_trees = record {
         decided = c.texts_are_decided.ensures.decided;

@@ -3,9 +3,8 @@ use Rattle.std.proofs.lemmas.List.{take_all}
 use Rattle.std.proofs.lemmas.Result.{IfOk-weaker, IfOk-from_err}
 use Rattle.csn_bits.specs.Octets.{bits_of_octets}
 use Rattle.csn_bits.proofs.Packing.{length-bits_of_octets}
-use Rattle.csn_catalogue.specs.declared.entry.Entry.TheVariants.{Downlink}
-use Rattle.csn_catalogue.specs.Entries.{entry_root}
 use Rattle.csn_json.specs.declared.form.TreeForm.TheVariants.{Text}
+use Rattle.csn_lines.specs.Language.{of_plan}
 use Rattle.csn_lines.specs.OutLine.{ShowsBlock}
 use Rattle.csn_lines.proofs.ProgressLemmas.{OnErr-from}
 use Rattle.csn_lines.proofs.segments.answer_joined.Goals as goal
@@ -18,7 +17,7 @@ returns-in-Ok-clause-ok c =
     rw c.in-Whole.is (IfOk-weaker c.show_block.result _ _ (λ answered h. (
       h.0,
       h.1,
-      (λ text rules reading is. subst (λ b. ShowsBlock Text rules (entry_root Downlink) reading b h.0) all (h.2 text rules (entry_root Downlink) reading is)),
+      subst (λ b. ShowsBlock Text (of_plan c.args.plan.now) b h.0) all h.2,
       h.3,
     )) c.show_block.ensures.ok)
 

@@ -2,6 +2,7 @@ use Rattle.std.proofs.Common.{[], ◌∷◌, ◌++◌, ◌∙◌, append-nil, co
 use Rattle.std.proofs.lemmas.Result.{IfOk-weaker, IfOk-from_err}
 use Rattle.csn_bits.specs.Fault.{IsLineFault}
 use Rattle.csn_bits.specs.Octets.{octets_of}
+use Rattle.csn_lines.specs.Language.{of_plan}
 use Rattle.csn_lines.specs.OutLine.{AnswersJoined, fault_text, joins_block, no_octets, no_block}
 use Rattle.csn_lines.proofs.ProgressLemmas.{OnErr-from}
 use Rattle.csn_lines.proofs.ShowLemmas.{fault_refuses}
@@ -15,7 +16,7 @@ returns-in-Err-clause-ok c =
     ] in (
       fault_text c.in-Err.fault,
       c.in_ok-answer_fault-in-Err.ensures.ok,
-      (λ before joins. (before, joins, λ text rules reading is. no_block c.in-Err.fault is_fault refl refl)),
+      (λ before joins. (before, joins, no_block c.in-Err.fault is_fault refl refl)),
       fault_refuses c.args.line.now c.in-Err.fault is_fault,
     )
 
@@ -28,9 +29,8 @@ returns-clause-ok c =
       (λ before joins. (
         before ++ octets_of c.in-Ok.bits ∷ [],
         given.joins before joins,
-        λ text rules reading is. joins_block c.in-Ok.bits c.in-Ok.ensures.ok (omega arith)
-            (subst (λ j. AnswersJoined rules reading j h.0) (given.answer before joins) (h.2 text rules reading is))
-            refl,
+        joins_block c.in-Ok.bits c.in-Ok.ensures.ok (omega arith)
+            (subst (λ j. AnswersJoined (of_plan c.args.plan.now) j h.0) (given.answer before joins) h.2) refl,
       )),
       h.3,
     )) c.answer_joined.ensures.ok
@@ -42,8 +42,7 @@ returns-then-len-ne0-clause-ok c = (
   (λ before joins. (
     before,
     joins,
-    λ text rules reading is. no_octets c.in-Ok.bits c.in-Ok.ensures.ok
-        (rw c.len.ensures.count at c.if-len-ne0.true) refl refl,
+    no_octets c.in-Ok.bits c.in-Ok.ensures.ok (rw c.len.ensures.count at c.if-len-ne0.true) refl refl,
   )),
   refl,
 )

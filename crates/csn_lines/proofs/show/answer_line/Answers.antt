@@ -12,7 +12,7 @@ returns-in-Text-clause-ok c = λ line reads.
     let text = ended.3.0 in (
       codes "ok " ++ text,
       ended.3.1 ∙ ap (λ l. l ++ text) c.in_ok-extend_from_slice.ensures.items ∙ append_assoc c.args.out.now.items (codes "ok ") text,
-      (ended.0, ended.1, ended.2, text_shown c.known.ensures c.args.text.now.form c.args.text.now.desc ended.0 text ended.3.2),
+      (ended.0, ended.1, ended.2, text_shown c.args.text.now.form c.args.text.now.desc ended.0 text ended.3.2),
       refl,
     )
 
@@ -26,7 +26,7 @@ returns-in_ok-answer_refusal-in-Refused-clause-ok c = λ line reads.
     let refusal = refusal_text c.in-Refused.place ended.0 in (
       refusal,
       c.in_ok-answer_refusal-in-Refused.ensures.ok ended.0 ended.2 ∙ ap (λ l. l ++ refusal) same,
-      (ended.0, ended.1, ended.2, place_shown c.known.ensures c.args.text.now.form c.args.text.now.desc ended.0 c.in-Refused.place ended.3),
+      (ended.0, ended.1, ended.2, place_shown c.args.text.now.form c.args.text.now.desc ended.0 c.in-Refused.place ended.3),
       refl,
     )
 

@@ -11,7 +11,7 @@ returns-in-Ok-clause-ok c =
     let added = c.in-Ok.ensures.text in (
       codes "ok " ++ added.0,
       added.1 ∙ ap (λ l. l ++ added.0) c.in_ok-extend_from_slice.ensures.items ∙ append_assoc _ (codes "ok ") added.0,
-      text_shown c.known.ensures c.args.form c.args.plan.now c.args.bits.now added.0 added.2,
+      text_shown c.args.form c.args.plan.now c.args.bits.now added.0 added.2,
       refl,
     )
 
@@ -25,6 +25,6 @@ returns-in_ok-answer_no_tree-in-Err-clause-ok c =
     let refusal = subst P told.1 c.in-Err.ensures.why in (
       refusal_text told.0 c.args.bits.now,
       told.2 ∙ ap (λ l. l ++ refusal_text told.0 c.args.bits.now) same,
-      place_shown c.known.ensures c.args.form c.args.plan.now c.args.bits.now told.0 refusal,
+      place_shown c.args.form c.args.plan.now c.args.bits.now told.0 refusal,
       refl,
     )

@@ -17,5 +17,5 @@ returns-clause-ends c = λ words files row watchers left taken.
     let is = c.in-Ok.ensures.plan in
     let P : DescV → Type 0 = λ d. IsSoaked d c.args.entry c.args.blocks c.in-Ok-soak.soaked in
     soak_ends words files watchers c.args.entry c.args.blocks is.0 c.in-Ok.plan c.in-Ok-soak.soaked left taken _ _ row
-    c.plan_of_entry.ensures.fits is.1 (subst P c.plan-2.ensures c.in-Ok-soak.ensures)
+    c.plan_of_entry.ensures.fits is.1 (subst P c.plan-2.ensures.plan c.in-Ok-soak.ensures)
     c.tell_soaked.ensures.ok c.tell_soaked.ensures.err

@@ -1,8 +1,5 @@
 use Rattle.std.proofs.Common.{inl, inr, refl, ap, Err}
-use Rattle.csn_lines.specs.LineState.{nothing_kept}
-use Rattle.csn_lines.specs.OutLine.{by_plan, Works}
 use Rattle.csn_lines.specs.Jobs.{by_rule}
-use Rattle.csn_run.proofs.Following.{Watches, alone_follows, watches_close}
 use Rattle.csn_run.proofs.JobLemmas.{asked_by_rule, lines_end, refused_by_file, refused_ends, refused_missing, refused_read, refused_write}
 use Rattle.csn_run.proofs.JobParts.{streams_alone, streams_of_lines}
 use Rattle.csn_lines.proofs.OutsideLemmas.{keeps_along}
@@ -29,11 +26,10 @@ returns-in-Err g c = record {
 pub returns-clause-ends : goal.returns-clause-ends
 returns-clause-ends g c = λ words watchers row.
     let is = c.in-Ok.ensures.plan in
-    lines_end Watches (Works (by_plan c.args.command c.in-Ok.plan)) nothing_kept words _ watchers
-    (by_rule c.args.command is.rules c.args.rule.name.now c.args.rule.reading) _ _ _ _ _ _ _
+    lines_end words _ watchers (by_rule c.args.command is.rules c.args.rule.name.now c.args.rule.reading) _ _ _ _ _ _ _
     (asked_by_rule words _ watchers c.args.command c.args.rule c.in-Ok.plan row is)
-    (alone_follows _ _ (λ line answer h. h is.text is.rules _ _ is.compiled))
-    watches_close refl c.answer_by_plan.ensures.ok c.answer_by_plan.ensures.err
+    c.answer_by_plan.ensures.ok c.answer_by_plan.ensures.end c.answer_by_plan.ensures.err
+    (record { does = (is.text, c.in-Ok.plan, is.compiled, refl); begins = record { bodies = tt; watchers = refl } })
 
 pub returns-clause-read : goal.returns-clause-read
 returns-clause-read g c = λ e. inl (c.answer_by_plan.ensures.blames.read e)
@@ -48,4 +44,4 @@ returns-clause-streams g c =
       by_rule c.args.command is.rules c.args.rule.name.now c.args.rule.reading,
       asked_by_rule words _ watchers c.args.command c.args.rule c.in-Ok.plan row is,
     ))
-    _ _ c.answer_by_plan.ensures.ok c.answer_by_plan.ensures.blames
+    _ c.answer_by_plan.ensures.end c.answer_by_plan.ensures.blames

@@ -1,12 +1,10 @@
-use Rattle.std.proofs.Common.{[], map, length, refl, sym, ap, ◌∙◌, subst, inr}
-use Rattle.csn_catalogue.specs.Entries.{all_entries}
-use Rattle.csn_plan.specs.Compiled.{AreCompiled, rule_of_entry}
+use Rattle.std.proofs.Common.{map, length, refl, ap, ◌∙◌, inr}
+use Rattle.csn_plan.specs.Compiled.{rule_of_entry}
 use Rattle.csn_run.specs.Job.{unread}
-use Rattle.csn_lines.specs.LineState.{Kept}
-use Rattle.csn_lines.specs.OutLine.{replaying_by, Works}
+use Rattle.csn_lines.specs.Language.{of_plans}
+use Rattle.csn_lines.specs.Work.{watching}
 use Rattle.csn_lines.specs.Jobs.{replaying}
-use Rattle.csn_run.proofs.Following.{Watches, watches_close}
-use Rattle.csn_run.proofs.JobLemmas.{replay_compiles, asked_replay, replays_follow, reason_ends, lines_end}
+use Rattle.csn_run.proofs.JobLemmas.{replay_compiles, asked_replay, reason_ends, lines_end}
 use Rattle.csn_run.proofs.JobParts.{streams_alone, streams_of_lines, text_no_read, text_no_write}
 use Rattle.csn_run.proofs.Apart.{memory_alone}
 use Rattle.csn_run.proofs.top.answer_replay.Goals as goal
@@ -42,15 +40,14 @@ answer_captures-requires g c = record { begin = c.in-Ok-new.ensures.reads; ready
 pub returns-clause-ends : goal.returns-clause-ends
 returns-clause-ends g c = λ words files row.
     let is = c.in-Ok.ensures.plans in
-    let plans = c.deref.result.now in
-    let are = subst (λ l. AreCompiled is.0 c.args.reading all_entries l) (sym c.deref.ensures.value) is.1 in
     let watched = map (λ b. (goal.Watcher-dyn g (b.vtable, b.value)).watched b.value) c.args.watchers.items in
-    let kept : Kept = record { bodies = []; watchers = watched } in
-    let ended = rw c.in-Ok-new.ensures.descs at c.answer_captures.ensures.ok in
-    let stopped = rw c.in-Ok-new.ensures.descs at c.answer_captures.ensures.err in
-    lines_end Watches (Works (replaying_by plans)) kept words files watched (replaying is.0 c.args.reading watched)
-    _ _ _ _ _ _ _ (asked_replay words files watched c.args.reading is.0 plans row c.plans_of_entries.ensures.fits
-    are) (replays_follow plans is.0 c.args.reading are) watches_close refl ended stopped
+    lines_end words files watched (replaying is.0 c.args.reading watched)
+    _ _ _ _ _ _ _ (asked_replay words files watched c.args.reading is.0 c.in-Ok.plans.items row c.plans_of_entries.ensures.fits is.1)
+    c.answer_captures.ensures.ok c.answer_captures.ensures.end c.answer_captures.ensures.err
+    (record {
+      does = (c.in-Ok.plans.items, is.1, ap (λ plans. watching (of_plans plans)) (c.in-Ok-new.ensures.descs ∙ c.deref.ensures.value));
+      begins = record { bodies = tt; watchers = refl };
+    })
 
 pub returns-clause-read : goal.returns-clause-read
 returns-clause-read g c = c.answer_captures.ensures.blames.read
@@ -63,5 +60,5 @@ returns-clause-streams g c =
       replaying is.0 c.args.reading _,
       asked_replay words files _ c.args.reading is.0
           c.in-Ok.plans.items row c.plans_of_entries.ensures.fits is.1,
-    )) _ _ c.answer_captures.ensures.ok
+    )) _ c.answer_captures.ensures.end
     c.answer_captures.ensures.blames

@@ -1,9 +1,8 @@
 use Rattle.std.proofs.Common.{[], refl}
 use Rattle.csn_catalogue.specs.declared.entry.Entry.TheVariants.{Downlink}
 use Rattle.csn_plan.specs.Compiled.{rule_of_entry}
-use Rattle.csn_lines.specs.OutLine.{joining, Works}
 use Rattle.csn_lines.specs.Jobs.{segmenting}
-use Rattle.csn_run.proofs.JobLemmas.{KeepsBodies, keeps_close, joins_follow, segments_compile, asked_segments, reason_ends, lines_end}
+use Rattle.csn_run.proofs.JobLemmas.{segments_compile, asked_segments, reason_ends, lines_end}
 use Rattle.csn_run.proofs.JobParts.{streams_alone, streams_of_lines, text_no_read, text_no_write}
 use Rattle.csn_run.proofs.top.answer_segments.Goals as goal
 
@@ -27,10 +26,11 @@ returns-clause-ends g c = λ words files watchers row.
     let is = c.in-Ok.ensures.plan in
     let ended = rw c.new-command.ensures.command at c.answer_lines.ensures.ok in
     let stopped = rw c.new-command.ensures.command at c.answer_lines.ensures.err in
-    lines_end KeepsBodies (Works (joining c.in-Ok.plan)) _ words files watchers (segmenting is.0 c.args.reading)
+    lines_end words files watchers (segmenting is.0 c.args.reading)
     _ _ _ _ _ _ _ (asked_segments words files watchers c.args.reading is.0 c.in-Ok.plan row
-    c.plan_of_entry.ensures.fits is.1) (joins_follow c.in-Ok.plan _ is.0 c.args.reading is.1) keeps_close
-    (record { joins = c.new.ensures; watches = refl }) ended stopped
+    c.plan_of_entry.ensures.fits is.1)
+    ended c.answer_lines.ensures.end stopped
+    (record { does = (c.in-Ok.plan, is.1, refl); begins = record { bodies = c.new.ensures; watchers = refl } })
 
 pub returns-clause-read : goal.returns-clause-read
 returns-clause-read g c = c.answer_lines.ensures.blames.read
@@ -43,4 +43,4 @@ returns-clause-streams g c =
       segmenting is.0 c.args.reading,
       asked_segments words files watchers c.args.reading is.0 c.in-Ok.plan row
           c.plan_of_entry.ensures.fits is.1,
-    )) _ _ c.answer_lines.ensures.ok c.answer_lines.ensures.blames
+    )) _ c.answer_lines.ensures.end c.answer_lines.ensures.blames

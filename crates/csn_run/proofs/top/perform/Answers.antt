@@ -1,11 +1,8 @@
 use Rattle.std.proofs.Common.{inl, inr, refl, length, ap, arith, None}
-use Rattle.csn_lines.specs.LineState.{nothing_kept}
-use Rattle.csn_lines.specs.OutLine.{renewing, Works}
 use Rattle.csn_lines.specs.Jobs.{migrating}
 use Rattle.csn_run.proofs.CommandLemmas.{answer_reads, migrate_reads, pair_named, two_read, comes_to_one, verify_named}
 use Rattle.csn_run.proofs.RanLemmas.{asked_told, goes_told}
 use Rattle.csn_lines.proofs.OutsideLemmas.{keeps_still}
-use Rattle.csn_run.proofs.Following.{Watches, alone_follows, watches_close}
 use Rattle.csn_run.proofs.JobLemmas.{asked_migrate, lines_end}
 use Rattle.csn_run.proofs.JobParts.{asks_certificate, asks_none, asks_one, asks_pair, lacking_alone}
 use Rattle.csn_run.proofs.JobParts.{streams_alone, streams_of_lines, streams_within}
@@ -55,9 +52,9 @@ pub returns-in-Migrate : goal.returns-in-Migrate
 returns-in-Migrate g c =
     let answered = c.answer_lines.ensures in
     record {
-      ends = λ words row files by. lines_end Watches (Works renewing) nothing_kept words files
+      ends = λ words row files by. lines_end words files
           _ migrating _ _ _ _ _ _ _ (asked_migrate words files _ (rw c.in-Migrate.is at row))
-          (alone_follows _ _ (λ line answer h. h)) watches_close refl answered.ok answered.err;
+          answered.ok answered.end answered.err (record { does = refl; begins = record { bodies = tt; watchers = refl } });
       read = λ e words row. inl (answered.blames.read e);
       files = λ words row. asks_none (omega (arith, ap length (rw c.in-Migrate.is at row)));
       shelf = keeps_still;
@@ -65,7 +62,7 @@ returns-in-Migrate g c =
           (λ words row. (
             migrate_reads (rw c.in-Migrate.is at row),
             λ files by. (migrating, asked_migrate words files _ (rw c.in-Migrate.is at row)),
-          )) _ _ answered.ok answered.blames;
+          )) _ answered.end answered.blames;
     }
 
 pub answer_segments-requires : goal.answer_segments-requires

@@ -7,6 +7,7 @@ use Rattle.csn_movetext.specs.Lines.{ReadsLine}
 use Rattle.csn_replay.specs.Head.{HeadOf, block_so_far}
 use Rattle.csn_replay.specs.declared.head.CaptureHead.{CaptureHead}
 use Rattle.csn_replay.specs.declared.head.CaptureHead.TheVariants.{Block}
+use Rattle.csn_lines.specs.Language.{of_plan}
 use Rattle.csn_lines.specs.OutLine.{ShowsAs}
 use Rattle.csn_lines.specs.Replaying.{ReadsCapture, taken_at}
 use Rattle.csn_lines.proofs.CaptureLemmas.{answers_block, answers_none, begins_after, begins_behind, same_descs, seven_texts, taken_by, writer_at}
@@ -64,8 +65,8 @@ returns-clause-ok c = λ line reads.
     let told = c.in_ok-answered.ensures.ok (block_so_far (Block entry) line) taken in
     let only = c.heads_tell_captures.ensures (Block entry) line reads_block.head_is in
     let form : old.form ≡ Text = c.args.self.now.texts c.place_of.result old at in
-    let shows : ShowsAs Text old.desc (block_so_far (Block entry) line) told.0 c.in_ok-answered.bits =
-    subst (λ (f : TreeForm). ShowsAs f old.desc (block_so_far (Block entry) line) told.0 c.in_ok-answered.bits) form told.2 in (
+    let shows : ShowsAs Text (of_plan old.desc) (block_so_far (Block entry) line) told.0 c.in_ok-answered.bits =
+    subst (λ (f : TreeForm). ShowsAs f (of_plan old.desc) (block_so_far (Block entry) line) told.0 c.in_ok-answered.bits) form told.2 in (
       told.0,
       told.1,
       rw c.seen_of.ensures (answers_block writers entry old line told.0 c.in_ok-answered.bits c.in_ok-answered.answered here only shows told.3),

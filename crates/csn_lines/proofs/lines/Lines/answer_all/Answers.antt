@@ -2,7 +2,7 @@ use Rattle.std.proofs.Common.{◌≡◌, ◌-◌, ◌⊎◌, [], arith, sym, sub
 use Rattle.std.proofs.lemmas.List.{append-nil, length-take, length-take-le}
 use Rattle.std.proofs.lemmas.Result.{err_from_is_err_and}
 use Rattle.csn_lines.specs.declared.fault.Fault.TheVariants.{Write, Memory}
-use Rattle.csn_lines.specs.OutLine.{Works}
+use Rattle.csn_lines.specs.Work.{Works}
 use Rattle.csn_lines.specs.Progress.{Stops}
 use Rattle.csn_lines.proofs.OutsideLemmas.{last_byte, keeps_then, keeps_quiet}
 use Rattle.csn_lines.proofs.StandingLemmas.{stops_halted, stops_read, stops_last, answers_last, standing_more, stops_too_long}

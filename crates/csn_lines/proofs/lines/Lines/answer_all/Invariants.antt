@@ -1,5 +1,5 @@
 use Rattle.std.proofs.Common.{◌≡◌, List, ℕ}
-use Rattle.csn_lines.specs.OutLine.{Works}
+use Rattle.csn_lines.specs.Work.{Works}
 use Rattle.csn_lines.proofs.ProgressLemmas.{Standing}
 use Rattle.csn_io.specs.Faults.{Keeps}
 use Rattle.csn_lines.specs.Reading.{AtLine}

@@ -1,5 +1,5 @@
 use Rattle.std.proofs.Common.{◌≡◌, ◌≤◌, ◌+◌, length, List, ℕ}
-use Rattle.csn_lines.specs.OutLine.{Works}
+use Rattle.csn_lines.specs.Work.{Works}
 use Rattle.csn_lines.specs.Reading.{AtLine}
 use Rattle.csn_lines.proofs.ProgressLemmas.{SoFar}
 use Rattle.csn_lines.proofs.lines.Lines.take.Given as goal

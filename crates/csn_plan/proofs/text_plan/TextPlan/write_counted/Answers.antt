@@ -15,7 +15,7 @@ returns-clause-text g c =
     (AddsText c.openings.result.now.form c.plan.result.now b c.args.out.now.items c.write_block.new.out.items) in
     let By : DescV → Type 0 = λ d. OnOk c.write_block.result
     (AddsText c.openings.result.now.form d c.args.bits.now c.args.out.now.items c.write_block.new.out.items) in
-    subst In c.openings.ensures.form (subst By c.plan.ensures (subst Adds all c.write_block.ensures.text))
+    subst In c.openings.ensures.form (subst By c.plan.ensures.plan (subst Adds all c.write_block.ensures.text))
 
 pub returns-clause-why : goal.returns-clause-why
 returns-clause-why g c =
@@ -23,4 +23,4 @@ returns-clause-why g c =
     ap (λ n. take n (bits_of_octets c.octets.result.now)) c.len.ensures.count ∙ c.octets.ensures.bits in
     let Faults : List ℕ → Type 0 = λ b. IfErr c.write_block.result (IsFaultOf c.plan.result.now b) in
     let By : DescV → Type 0 = λ d. IfErr c.write_block.result (IsFaultOf d c.args.bits.now) in
-    subst By c.plan.ensures (subst Faults all c.write_block.ensures.why)
+    subst By c.plan.ensures.plan (subst Faults all c.write_block.ensures.why)
