@@ -1,5 +1,5 @@
 -- What is told of blocks that are made to order. (This project's own choice.)
-use Rattle.std.specs.Prelude.{◌≡◌, ℕ, ◌+◌, ◌*◌, ◌≤◌, List, [], length}
+use Rattle.std.specs.Prelude.{◌≡◌, ℕ, ◌+◌, ◌*◌, ◌/◌, ◌≤◌, List, [], length, max}
 use Rattle.csn_desc.specs.Nodes.{DescV}
 use Rattle.csn_desc.specs.TreeV.{TreeV}
 use Rattle.csn_desc.specs.Means.{NMeans}
@@ -39,3 +39,12 @@ begun nodes bits = 4 * nodes + 64 * (bits + 1)
 -- how many steps one draw of a block takes, at most: those of the draw, and those of its judge
 abbrev pub work : (nodes bits : ℕ) → ℕ
 work nodes bits = begun nodes bits + 8 * nodes * (bits + 1)
+
+-- how many blocks are drawn to cover a description, at most, of so many bits each: together they have 200,000,000
+abbrev pub draws : (bits : ℕ) → ℕ
+draws bits = 200000000 / max bits 200
+
+-- how many steps it takes to cover a description, at most: those of the draws, behind each of which another way may have its
+-- turn, and a few for each node
+abbrev pub cover_work : (nodes bits : ℕ) → ℕ
+cover_work nodes bits = draws bits * (work nodes bits + 2 * nodes) + 5 * nodes

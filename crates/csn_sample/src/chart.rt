@@ -1,17 +1,18 @@
 ghost use Rattle.std.specs.Prelude.{◌<◌, ◌≤◌, length};
 
+use crate::aim::Aim;
 use crate::span::Span;
 use csn_certify::Plan;
 use csn_desc::Parts;
 
 /// What a draw goes by: the plan, and for each of its nodes how many bits its strings have, which numbers it may write
-/// where windows are counted on it, and whether a block is wanted that goes through it.
+/// where windows are counted on it, and what the draw goes towards.
 #[derive(Clone, Copy)]
 pub(crate) struct Chart<'a> {
     pub plan: &'a Plan,
     pub bits: &'a [Span],
     pub numbers: &'a [Span],
-    pub wanted: &'a [bool],
+    pub aim: Aim<'a>,
 }
 
 impl Chart<'_> {
@@ -30,16 +31,29 @@ impl Chart<'_> {
 
     /// Whether a block is wanted that goes through a node.
     pub fn wants(&self, i: u16) -> bool {
-        self.wanted.get(usize::from(i)).copied().unwrap_or(false)
+        let wanted = self.aim.wanted.get(usize::from(i));
+        wanted.copied().unwrap_or(false)
     }
 
-    /// One in how many times a repetition of a node ends: more seldom where it is wanted, and more often where others are.
+    /// How many fewer bits than a block an alternative has at least, where few are wanted.
+    pub fn shortness(&self, i: u16) -> u64 {
+        if self.aim.short {
+            Span::ANY.most.saturating_sub(self.span(i).least)
+        } else {
+            0
+        }
+    }
+
+    /// One in how many times a repetition of a node ends: more seldom where it is wanted, and more often where others are,
+    /// or where few bits are wanted.
     pub fn odds(&self, i: u16) -> u64
         ensures { 0 < result }
     {
         if self.wants(i) {
             8
-        } else if self.wanted.is_empty() {
+        } else if self.aim.short {
+            1
+        } else if self.aim.wanted.is_empty() {
             3
         } else {
             2

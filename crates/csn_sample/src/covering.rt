@@ -1,29 +1,36 @@
 //! Few blocks that go as many ways as were found.
 
-ghost use Rattle.std.specs.Prelude.{◌≡◌, ◌≤◌, ℕ, All, IfOk, IfSome, OnOk, length};
+ghost use Rattle.std.specs.Prelude.{◌≡◌, ◌+◌, ◌*◌, ◌≤◌, ℕ, All, IfOk, IfSome, OnOk, length};
 ghost use Rattle.csn_sample.specs.declared.wish.Length.TheVariants.{AtMost};
-ghost use Rattle.csn_sample.specs.Samples.{IsSample};
+ghost use Rattle.csn_sample.specs.Samples.{IsSample, draws, cover_work, work};
 ghost use Rattle.csn_sample.specs.Covering.{AllUnmet, AreMet, AreTold, HasMarks, IsExample, IsMarked, IsUnmetWith};
 
-use crate::generator::Generator;
+use crate::aim::Aim;
 use crate::marks::WayMarks;
 use crate::sampler::{Sampled, Sampler};
+use crate::target::Target;
 use crate::way_numbers::ways;
 use crate::wish::{Length, Values, Wish};
 use csn_bits::NoMemory;
 use csn_certify::{Plan, Steps};
-use csn_desc::{Node, Parts};
 use std::alloc::Global;
-use std::sync::ledger::Ledger;
+use std::marker::Brand;
+use std::sync::ledger::{Blank, Ledger};
 
-/// How many blocks are asked for at most.
-const MOST_ASKED: u32 = 100_000;
+/// How many bits all draws have together, at most.
+const MOST_DRAWN: u32 = 200_000_000;
 
-/// How many blocks in a row may bring nothing new, until no more are asked for.
-const MOST_IDLE: u32 = 20_000;
+/// As how many bits a block counts that has fewer.
+const FEWEST_COUNTED: u32 = 200;
 
-/// As how many of them one counts that was not found.
-const NOT_FOUND: u32 = 64;
+/// How many nodes begin in all draws, until no more blocks are drawn.
+const MOST_BEGUN: u64 = 40_000_000;
+
+/// How many draws in a row may bring nothing new, until no more blocks are drawn,
+const MOST_IDLE: u32 = 40_000;
+
+/// and how often before that each way that is not met has its turn.
+const ROUNDS: u32 = 3;
 
 /// A way that trees can go at a node.
 #[derive(Clone, Copy, Debug, PartialEq, Eq)]
@@ -47,27 +54,39 @@ pub struct Covered {
 }
 
 /// Blocks of at most so many bits, each of which goes a way of the description that none before it goes, and the ways
-/// that none of them goes. The same seed gives the same blocks.
+/// that none of them goes. They have few bits where blocks of few bits are found that go these ways. The same seed gives
+/// the same blocks. The steps that mark the ways are not counted.
 pub fn cover<L: Ledger>(
     alloc: Global,
     plan: &Plan,
+    few: u32,
     most: u32,
     seed: u64,
     steps: &mut Steps<L>,
 ) -> Result<Covered, NoMemory>
     ensures blocks { IfOk result (λ told. All (IsExample plan.now most) told.blocks.items) }
     ensures ways { IfOk result (λ told. AreTold plan.now told.blocks.items told.unmet.items) }
+    ensures steps { steps.new ≤ steps.old + cover_work (length plan.now.nodes) most }
 {
     let mut marks = WayMarks::new(alloc, plan, steps)?;
-    let blocks = found(alloc, plan, most, seed, &mut marks, steps)?;
+    let blocks = found(alloc, plan, few, most, seed, &mut marks, steps)?;
     let unmet = ways_unset(alloc, plan, &marks, steps)?;
     Ok(Covered { blocks, unmet })
 }
 
-/// The blocks, each of which sets a mark that was not set.
+/// How many blocks of at most so many bits are drawn, at most.
+fn most_draws(most: u32) -> u32
+    ensures { result ≡ draws most }
+{
+    MOST_DRAWN / most.max(FEWEST_COUNTED)
+}
+
+/// The blocks, each of which sets a mark that was not set. They are drawn in turn by chance, and towards a way that is not
+/// met.
 fn found<L: Ledger>(
     alloc: Global,
     plan: &Plan,
+    few: u32,
     most: u32,
     seed: u64,
     marks: &mut WayMarks,
@@ -78,42 +97,46 @@ fn found<L: Ledger>(
     ensures many { HasMarks plan.now marks.new }
     ensures blocks { IfOk result (λ told. All (IsExample plan.now most) told.items) }
     ensures marks { IfOk result (λ told. AreMet plan.now told.items marks.new) }
+    ensures steps { steps.new ≤ steps.old + 3 * length plan.now.nodes
+        + draws most * (work (length plan.now.nodes) most + 2 * length plan.now.nodes) }
 {
     let mut told = Vec::new(alloc);
     let mut sampler = Sampler::new(alloc, plan, steps)?;
-    let mut seeds = Generator::new(seed);
-    let mut wanted = Vec::new(alloc);
-    let mut idle = 0;
-    for asked in 0..MOST_ASKED {
-        if idle >= MOST_IDLE {
+    sampler.begin(seed);
+    let mut target = Target::new(alloc, plan, marks, steps)?;
+    let mut idle = 0u32;
+    for turn in 0..most_draws(most) {
+        if is_enough(&target, idle) || sampler.nodes_begun() >= MOST_BEGUN {
             break;
         }
-        let steered: &[bool] = if asked % 2 == 0 { &wanted } else { &[] };
-        let seed = seeds.number();
-        let drawn = sampler.towards(wish(most, asked), steered, seed, steps)?;
-        let weight = weight_of(&drawn);
-        if keep(plan, drawn, marks, &mut told, steps)? {
-            wanted = wants(alloc, plan, marks, steps)?;
-            idle = 0;
+        let aim = if turn % 2 == 0 {
+            Aim::any(few)
         } else {
-            idle += weight;
-        }
+            target.aim(few, most)
+        };
+        let drawn = sampler.attempt(wish(most, turn / 2), aim, steps)?;
+        let kept = keep(plan, drawn, marks, &mut told)?;
+        idle = idle_after(idle, kept);
+        target.go_on(alloc, plan, marks, steps)?;
     }
     Ok(told)
 }
 
-/// As how many blocks that bring nothing new one counts that was drawn.
-fn weight_of(drawn: &Option<Sampled>) -> u32
-    ensures { result ≤ NOT_FOUND }
-{
-    if drawn.is_some() { 1 } else { NOT_FOUND }
+/// How many draws in a row brought nothing new, with one that was kept or not.
+fn idle_after(idle: u32, kept: bool) -> u32 {
+    if kept { 0 } else { idle.saturating_add(1) }
+}
+
+/// Whether no way is left, or so many draws brought nothing new that no more is hoped for.
+fn is_enough(target: &Target, idle: u32) -> bool {
+    target.is_none() || idle >= MOST_IDLE && target.round >= ROUNDS
 }
 
 /// What is asked of the next block, behind so many others.
-fn wish(most: u32, asked: u32) -> Wish
+fn wish(most: u32, turn: u32) -> Wish
     ensures { result.length ≡ AtMost most }
 {
-    let values = if asked % 4 < 3 {
+    let values = if turn % 4 < 3 {
         Values::Edges
     } else {
         Values::Uniform
@@ -125,12 +148,11 @@ fn wish(most: u32, asked: u32) -> Wish
 }
 
 /// Keeps a block that sets a mark that was not set. Whether it did.
-fn keep<L: Ledger>(
+fn keep(
     plan: &Plan,
     drawn: Option<Sampled>,
     marks: &mut WayMarks,
     told: &mut Vec<Example>,
-    steps: &mut Steps<L>,
 ) -> Result<bool, NoMemory>
     requires many { HasMarks plan.now marks.old }
     requires marks { AreMet plan.now told.old.items marks.old }
@@ -142,7 +164,7 @@ fn keep<L: Ledger>(
     let Some(sampled) = drawn else {
         return Ok(false);
     };
-    let Some(way) = marks.add_tree(plan, &sampled.tree, steps) else {
+    let Some(way) = marks.add_tree::<Brand>(plan, &sampled.tree, Blank::new(1)) else {
         return Ok(false);
     };
     told.push(Example { sampled, way })?;
@@ -150,14 +172,15 @@ fn keep<L: Ledger>(
 }
 
 /// The ways whose marks are not set.
-fn ways_unset<L: Ledger>(
+pub(crate) fn ways_unset<L: Ledger>(
     alloc: Global,
     plan: &Plan,
     marks: &WayMarks,
     steps: &mut Steps<L>,
 ) -> Result<Vec<Way>, NoMemory>
     requires { HasMarks plan.now marks.now }
-    ensures { IfOk result (λ unmet. AllUnmet plan.now (length plan.now.nodes) unmet.items marks.now) }
+    ensures ways { IfOk result (λ unmet. AllUnmet plan.now (length plan.now.nodes) unmet.items marks.now) }
+    ensures steps { steps.new ≤ steps.old + length plan.now.nodes }
 {
     let mut unmet = Vec::new(alloc);
     for i in 0..plan.len() {
@@ -177,78 +200,4 @@ fn add_unset(node: u16, count: u16, marks: &WayMarks, unmet: &mut Vec<Way>) -> R
         }
     }
     Ok(())
-}
-
-/// For each node, whether a block is wanted that goes through it.
-fn wants<L: Ledger>(
-    alloc: Global,
-    plan: &Plan,
-    marks: &WayMarks,
-    steps: &mut Steps<L>,
-) -> Result<Vec<bool>, NoMemory> {
-    let mut wanted = vec![in alloc; false; usize::from(plan.len())]?;
-    for i in (0..plan.len()).rev() {
-        let node = plan.node(i, steps);
-        want_alternatives(i, node, marks, &mut wanted);
-        if lacks(i, ways(node), marks) || has_wanted(node, &wanted) {
-            want(&mut wanted, i);
-        }
-    }
-    Ok(wanted)
-}
-
-/// A block is wanted that goes through a node.
-fn want(wanted: &mut [bool], i: u16) {
-    if usize::from(i) < wanted.len() {
-        wanted[usize::from(i)] = true;
-    }
-}
-
-/// The alternatives of a choice that were not met are wanted.
-fn want_alternatives(i: u16, node: &Node, marks: &WayMarks, wanted: &mut [bool]) {
-    let Node::Choice(parts) = node else {
-        return;
-    };
-    for at in 0..parts.len() {
-        if !marks.has(i, at) {
-            want(wanted, parts.get(at));
-        }
-    }
-}
-
-/// Whether a mark of a node is not set.
-fn lacks(i: u16, count: u16, marks: &WayMarks) -> bool {
-    for way in 0..count {
-        if !marks.has(i, way) {
-            return true;
-        }
-    }
-    false
-}
-
-/// Whether some part of a node is wanted.
-fn has_wanted(node: &Node, wanted: &[bool]) -> bool {
-    match node {
-        Node::Seq(parts) | Node::Choice(parts) | Node::Trunc(parts) => one_is_wanted(parts, wanted),
-        Node::Times { part, .. }
-        | Node::Many(part)
-        | Node::Window { part, .. }
-        | Node::Named { part, .. } => is_wanted(*part, wanted),
-        _ => false,
-    }
-}
-
-/// Whether a block is wanted that goes through a node.
-fn is_wanted(i: u16, wanted: &[bool]) -> bool {
-    wanted.get(usize::from(i)).copied().unwrap_or(false)
-}
-
-/// Whether one of some parts is wanted.
-fn one_is_wanted(parts: &Parts, wanted: &[bool]) -> bool {
-    for at in 0..parts.len() {
-        if is_wanted(parts.get(at), wanted) {
-            return true;
-        }
-    }
-    false
 }

@@ -24,6 +24,8 @@ pub(crate) struct Draft {
     numbers: ArrayVec<Number, MOST_NUMBERS>,
     /// How many nodes may still begin.
     left: u64,
+    /// How many nodes began in all draws.
+    pub begun: u64,
 }
 
 impl Draft {
@@ -33,6 +35,7 @@ impl Draft {
             drawn: Drawn::new(alloc),
             numbers: ArrayVec::new(),
             left: 0,
+            begun: 0,
         }
     }
 
@@ -46,10 +49,15 @@ impl Draft {
     ) -> Result<(), Stop>
         ensures { steps.new ≤ steps.old + most_begun }
     {
-        self.drawn.begin(wish.values, wish.length.most());
+        let most = wish.length.most().min(chart.aim.most);
+        self.drawn.begin(wish.values, most);
         self.numbers.clear();
         self.left = most_begun;
-        self.draw(chart, 0, MOST_DEPTH as u8, Room::of(wish.length), steps)
+        let room = Room::of(wish.length).within(most);
+        let drawn = self.draw(chart, 0, MOST_DEPTH as u8, room, steps);
+        let begun = most_begun.saturating_sub(self.left);
+        self.begun = self.begun.saturating_add(begun);
+        drawn
     }
 
     /// Draws a string of node `i`, inside which so many others may be.

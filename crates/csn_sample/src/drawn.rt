@@ -41,6 +41,13 @@ enum Suits {
     Best,
 }
 
+/// What an alternative is chosen by.
+#[derive(Clone, Copy, PartialEq, Eq, PartialOrd, Ord)]
+struct Rank {
+    suits: Suits,
+    shortness: u64,
+}
+
 /// The bits that are drawn so far.
 #[derive(Drop)]
 pub(crate) struct Drawn {
@@ -215,19 +222,26 @@ impl Drawn {
         room.least.saturating_add(few)
     }
 
-    /// The alternative of a choice that is drawn: one that is wanted and fits, or else one that fits, or any.
+    /// The alternative of a choice that is drawn: one that is wanted and fits, or else one that fits, or any; where few bits
+    /// are wanted one of the shortest of these.
     pub fn alternative(&mut self, chart: &Chart<'_>, parts: &Parts, room: Room) -> Option<u16> {
         let mut drawn = None;
-        let mut best = Suits::Badly;
+        let mut best = Rank {
+            suits: Suits::Badly,
+            shortness: 0,
+        };
         let mut among = 0;
         for at in 0..parts.len() {
             let part = parts.get(at);
-            let suits = how_it_suits(chart, part, room);
-            if suits > best {
-                best = suits;
+            let rank = Rank {
+                suits: how_it_suits(chart, part, room),
+                shortness: chart.shortness(part),
+            };
+            if rank > best {
+                best = rank;
                 among = 0;
             }
-            if suits == best {
+            if rank == best {
                 among += 1;
                 if self.generator.one_in(among) {
                     drawn = Some(part);
@@ -238,7 +252,7 @@ impl Drawn {
     }
 
     /// How many components of a truncation are drawn: as many as fit, and fill the room where a length is asked for, with
-    /// those that are wanted.
+    /// those that are wanted, and with no more where few bits are.
     pub fn components(&mut self, chart: &Chart<'_>, parts: &Parts, room: Room) -> u16
         ensures { result ≤ length parts.now }
     {
@@ -256,6 +270,9 @@ impl Drawn {
             }
         }
         let least = least.min(most);
+        if chart.aim.short {
+            return least;
+        }
         least + self.generator.below(u64::from(most - least) + 1) as u16
     }
 

@@ -1,6 +1,7 @@
 //! Blocks to order: strings of a description that a generator makes, each judged before it is told.
 #![tactic(auto)]
 
+mod aim;
 mod change;
 mod chart;
 mod covering;
@@ -17,6 +18,8 @@ mod shapes;
 mod span;
 mod spans;
 mod spots;
+mod target;
+mod tries;
 mod way_numbers;
 mod wish;
 
@@ -26,5 +29,6 @@ pub use generator::Generator;
 pub use near::{Near, nearly};
 pub use sampler::{Sampled, Sampler, TRIES};
 pub use spans::ample;
+pub use tries::Tries;
 pub use way_numbers::ways;
 pub use wish::{Length, Values, Wish};

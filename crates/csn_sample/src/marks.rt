@@ -1,6 +1,6 @@
 //! Marks of the ways that were met.
 
-ghost use Rattle.std.specs.Prelude.{◌≡◌, ◌<◌, ◌↔◌, ℕ, true, false, length, IfOk, IsTrue, slice_set, slice_index_or};
+ghost use Rattle.std.specs.Prelude.{◌≡◌, ◌+◌, ◌<◌, ◌≤◌, ◌↔◌, ℕ, true, false, length, IfOk, IsTrue, slice_set, slice_index_or};
 ghost use Rattle.csn_sample.specs.Covering.{IsMarked, HasMarks, Sets, marks_at};
 
 use crate::covering::Way;
@@ -76,6 +76,7 @@ impl WayMarks {
     ) -> Result<WayMarks, NoMemory>
         ensures many { IfOk result (HasMarks plan.now) }
         ensures none { IfOk result (λ marks. (i way : ℕ) → ¬ IsMarked marks i way) }
+        ensures steps { steps.new ≤ steps.old + length plan.now.nodes }
     {
         let mut rows = Vec::new(alloc);
         for i in 0..plan.len() {

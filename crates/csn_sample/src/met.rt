@@ -1,6 +1,6 @@
 //! The ways that the tree of a block goes are marked.
 
-ghost use Rattle.std.specs.Prelude.{◌≡◌, ℕ, Some, slice_get};
+ghost use Rattle.std.specs.Prelude.{◌≡◌, ◌<◌, ℕ, Some, slice_get};
 ghost use Rattle.csn_desc.specs.Nodes.{parts_of};
 ghost use Rattle.csn_desc.specs.declared.node.Node.TheVariants.{Seq, Choice, Many};
 ghost use Rattle.csn_sample.specs.Covering.{HasMarks, HasRoom, MeetsInside, Sets, marks_at};
@@ -12,22 +12,21 @@ use crate::shapes::{alternative_of, labelled, rows_of};
 use crate::way_numbers::way_gone;
 use csn_certify::{Plan, Steps};
 use csn_desc::{MOST_DEPTH, Node, Parts, Rows, Tree};
-use std::sync::ledger::Ledger;
+use std::sync::ledger::{Blank, Ledger};
 
 impl WayMarks {
     /// Sets the marks of the ways that the tree of a block goes, and tells one that is new, if there is one.
-    pub fn add_tree<L: Ledger>(
-        &mut self,
-        plan: &Plan,
-        tree: &Tree,
-        steps: &mut Steps<L>,
-    ) -> Option<Way>
-        requires { HasMarks plan.now self.old }
+    pub fn add_tree<L: Ledger>(&mut self, plan: &Plan, tree: &Tree, blank: Blank) -> Option<Way>
+        requires name { blank.name ≡ L.name }
+        requires parts { blank.parts ≡ L.parts }
+        requires some { 0 < blank.parts }
+        requires marks { HasMarks plan.now self.old }
         ensures { Sets self.old self.new (Meets plan.now 0 tree.now) result }
     {
         // its length tells that it is well formed
         let _count = plan.len();
-        self.add(plan, 0, MOST_DEPTH as u8, tree, steps)
+        let mut steps = Steps::<L>::new(blank);
+        self.add(plan, 0, MOST_DEPTH as u8, tree, &mut steps)
     }
 
     /// Those of a tree at node `i`, which is, with what is inside it, at most so many nodes deep.

@@ -5,6 +5,7 @@ ghost use Rattle.csn_sample.specs.Nearly.{IsNear};
 
 use crate::change::Change;
 use crate::spots::{Kind, Spot, spots};
+use crate::tries::Tries;
 use csn_bits::{Bits, BitsFault, NoMemory};
 use csn_certify::{Plan, Steps};
 use csn_judge::{Judged, judge_block};
@@ -24,11 +25,13 @@ pub struct Near {
 
 /// The blocks that are refused of those that small changes of a block make: each literal with its first bit turned, and
 /// so each spare part, the block cut where each field begins, each last turn of a repetition by number told twice, and a
-/// bit more behind the end. A change that makes another string is left out.
+/// bit more behind the end. A change that makes another string is left out. At a node a kind of change is tried a few times
+/// at most, in all calls with the same tries, and not after a block was refused; so many blocks are judged at most.
 pub fn nearly<L: Ledger>(
     alloc: Global,
     plan: &Plan,
     block: &Bits,
+    tries: &mut Tries,
     steps: &mut Steps<L>,
 ) -> Result<Vec<Near>, NoMemory>
     ensures { IfOk result (λ told. All (IsNear plan.now block.now) told.items) }
@@ -36,10 +39,19 @@ pub fn nearly<L: Ledger>(
     let spots = spots(alloc, plan, block, steps)?;
     let mut told = Vec::new(alloc);
     for spot in &spots {
-        add(alloc, plan, block, spot.node, change_at(spot), &mut told)?;
+        add(
+            alloc,
+            plan,
+            block,
+            spot.node,
+            change_at(spot),
+            tries,
+            &mut told,
+        )?;
     }
     for bit in 0..2 {
-        add(alloc, plan, block, 0, Change::Behind { bit }, &mut told)?;
+        let change = Change::Behind { bit };
+        add(alloc, plan, block, 0, change, tries, &mut told)?;
     }
     Ok(told)
 }
@@ -56,19 +68,24 @@ fn change_at(spot: &Spot) -> Change {
     }
 }
 
-/// Adds what a change makes of a block, where it is refused.
+/// Adds what a change makes of a block, where it may be tried and is refused.
 fn add(
     alloc: Global,
     plan: &Plan,
     block: &Bits,
     node: u16,
     change: Change,
+    tries: &mut Tries,
     told: &mut Vec<Near>,
 ) -> Result<(), NoMemory>
     requires { All (IsNear plan.now block.now) told.old.items }
     ensures { All (IsNear plan.now block.now) told.new.items }
 {
+    if !tries.take(node, change) {
+        return Ok(());
+    }
     if let Some(near) = refused(alloc, plan, block, node, change)? {
+        tries.end(node, change);
         told.push(near)?;
     }
     Ok(())

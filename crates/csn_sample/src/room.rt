@@ -23,6 +23,14 @@ impl Room {
         }
     }
 
+    /// The room where there are at most so many bits.
+    pub fn within(self, most: u32) -> Room {
+        Room {
+            least: self.least,
+            most: self.most.min(u64::from(most)),
+        }
+    }
+
     /// What is left of the room where so many bits of it are there, and another part comes behind.
     pub fn left(self, used: u64, behind: Span) -> Room {
         Room {

@@ -4,6 +4,7 @@ ghost use Rattle.std.specs.Prelude.{◌≡◌, ◌+◌, ◌*◌, ◌≤◌, leng
 ghost use Rattle.csn_desc.specs.TreeV.{TreeV};
 ghost use Rattle.csn_sample.specs.Samples.{Fits, HasTree, IsBlock, IsSample, most_of, begun, work};
 
+use crate::aim::Aim;
 use crate::chart::Chart;
 use crate::decoded::decoded;
 use crate::draft::Draft;
@@ -11,7 +12,7 @@ use crate::drawn::Stop;
 use crate::generator::Generator;
 use crate::spans::{Spans, plan_spans};
 use crate::wish::Wish;
-use csn_bits::{Bits, NoMemory};
+use csn_bits::{Bits, MOST_BITS, NoMemory};
 use csn_certify::{Plan, Steps};
 use csn_desc::Tree;
 use csn_judge::{Judged, judge_block};
@@ -77,28 +78,25 @@ impl<'a> Sampler<'a> {
         ensures told { IfOk result (λ found. IfSome found (IsSample self.old wish.length)) }
         ensures steps { steps.new ≤ steps.old + TRIES * work (length self.old.nodes) (most_of wish.length) }
     {
-        self.towards(wish, &[], seed, steps)
-    }
-
-    /// The same, where blocks are wanted that go through some nodes.
-    pub(crate) fn towards<L: Ledger>(
-        &mut self,
-        wish: Wish,
-        wanted: &[bool],
-        seed: u64,
-        steps: &mut Steps<L>,
-    ) -> Result<Option<Sampled>, NoMemory>
-        ensures desc { self.new ≡ self.old }
-        ensures told { IfOk result (λ found. IfSome found (IsSample self.old wish.length)) }
-        ensures steps { steps.new ≤ steps.old + TRIES * work (length self.old.nodes) (most_of wish.length) }
-    {
-        self.draft.drawn.generator = Generator::new(seed);
+        self.begin(seed);
         for _ in 0..TRIES {
-            if let Some(sampled) = self.attempt(wish, wanted, steps)? {
+            if let Some(sampled) = self.attempt(wish, Aim::any(MOST_BITS), steps)? {
                 return Ok(Some(sampled));
             }
         }
         Ok(None)
+    }
+
+    /// Draws from a seed on.
+    pub(crate) fn begin(&mut self, seed: u64)
+        ensures { self.new ≡ self.old }
+    {
+        self.draft.drawn.generator = Generator::new(seed);
+    }
+
+    /// How many nodes began in all draws so far.
+    pub(crate) fn nodes_begun(&self) -> u64 {
+        self.draft.begun
     }
 
     /// A block that is a string, and as long as was asked, without its tree, in half the time. The steps of its judge are not
@@ -113,9 +111,9 @@ impl<'a> Sampler<'a> {
         ensures told { IfOk result (λ found. IfSome found (IsBlock self.old wish.length)) }
         ensures steps { steps.new ≤ steps.old + TRIES * begun (length self.old.nodes) (most_of wish.length) }
     {
-        self.draft.drawn.generator = Generator::new(seed);
+        self.begin(seed);
         for _ in 0..TRIES {
-            if let Some(block) = self.draw(wish, &[], steps)? {
+            if let Some(block) = self.draw(wish, Aim::any(MOST_BITS), steps)? {
                 if is_string(self.plan, &block) {
                     return Ok(Some(block));
                 }
@@ -124,11 +122,11 @@ impl<'a> Sampler<'a> {
         Ok(None)
     }
 
-    /// One draw of a block with its tree, which may come to no string.
-    fn attempt<L: Ledger>(
+    /// One draw of a block with its tree, which may come to no string. The draws go on from the last one.
+    pub(crate) fn attempt<L: Ledger>(
         &mut self,
         wish: Wish,
-        wanted: &[bool],
+        aim: Aim<'_>,
         steps: &mut Steps<L>,
     ) -> Result<Option<Sampled>, NoMemory>
         ensures desc { self.new ≡ self.old }
@@ -137,7 +135,7 @@ impl<'a> Sampler<'a> {
     {
         let alloc = self.alloc;
         let plan = self.plan;
-        let Some(block) = self.draw(wish, wanted, steps)? else {
+        let Some(block) = self.draw(wish, aim, steps)? else {
             return Ok(None);
         };
         judged(alloc, plan, block, steps)
@@ -147,7 +145,7 @@ impl<'a> Sampler<'a> {
     fn draw<L: Ledger>(
         &mut self,
         wish: Wish,
-        wanted: &[bool],
+        aim: Aim<'_>,
         steps: &mut Steps<L>,
     ) -> Result<Option<Bits>, NoMemory>
         ensures desc { self.new ≡ self.old }
@@ -159,7 +157,7 @@ impl<'a> Sampler<'a> {
             plan: self.plan,
             bits: self.spans.bits.as_slice(),
             numbers: self.spans.numbers.as_slice(),
-            wanted,
+            aim,
         };
         match self.draft.draw_block(&chart, wish, begun, steps) {
             Ok(()) => {}

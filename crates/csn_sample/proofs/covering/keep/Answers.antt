@@ -9,13 +9,13 @@ use Rattle.csn_sample.proofs.WaysUnset.{met_more, new_goes, examples_more}
 use Rattle.csn_sample.proofs.covering.keep.Goals as goal
 
 pub returns-clause-marks : goal.returns-clause-marks
-returns-clause-marks g c =
+returns-clause-marks c =
     met_more c.args.plan.now c.args.told.now.items c.push.new.self.items
     (record { sampled = c.in-Some.sampled; way = c.in-Some-add_tree.way })
     c.args.marks.now c.add_tree.new.self c.in_ok-push.ensures.items c.add_tree.ensures.marks c.requires.marks
 
 pub returns-clause-blocks : goal.returns-clause-blocks
-returns-clause-blocks g c = λ most before string.
+returns-clause-blocks c = λ most before string.
     examples_more c.args.plan.now most c.args.told.now.items c.push.new.self.items
     (record { sampled = c.in-Some.sampled; way = c.in-Some-add_tree.way }) c.in_ok-push.ensures.items before
     (new_goes c.args.plan.now most (record { sampled = c.in-Some.sampled; way = c.in-Some-add_tree.way })

@@ -11,6 +11,7 @@ loop-i-preserved g c = record {
   many = marks_next c.args.plan.now c.loop-i.rows.items _ c.in_ok-row.row c.loop-i.i c.node.result.now c.node.ensures.node
       c.loop-i.invariant.long (c.in_ok-row.ensures.many ∙ c.ways-count.ensures) c.in_ok-push.ensures.items c.loop-i.invariant.many;
   none = none_next c.loop-i.rows.items _ c.in_ok-row.row c.in_ok-push.ensures.items c.in_ok-row.ensures.none c.loop-i.invariant.none;
+  steps = omega (arith, c.loop-i.invariant.steps, c.node.ensures.step);
 }
 
 pub returns-clause-many : goal.returns-clause-many

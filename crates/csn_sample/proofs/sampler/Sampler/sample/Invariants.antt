@@ -1,6 +1,6 @@
 use Rattle.std.proofs.Common.{◌≡◌, ◌+◌, ◌*◌, ◌≤◌, length}
 use Rattle.csn_sample.specs.Samples.{most_of, work}
-use Rattle.csn_sample.proofs.sampler.Sampler.towards.Given as goal
+use Rattle.csn_sample.proofs.sampler.Sampler.sample.Given as goal
 
 abbrev pub invariant-loop : goal.invariant-loop
 invariant-loop g l =
