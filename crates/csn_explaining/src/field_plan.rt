@@ -18,13 +18,13 @@ pub struct FieldPlan<'a> {
 
 impl<'a> Model for FieldPlan<'a> {
     ghost use Rattle.csn_desc.specs.Nodes.{DescV};
-    ghost use Rattle.csn_fields.specs.Numbers.{HasNumbers};
+    ghost use Rattle.csn_fields.specs.Alternatives.{HasAlternatives};
 
     ghost Value = { DescV };
 
     ghost view = { λ p. p.plan.now };
 
-    ghost invariant = { λ p. HasNumbers p.plan.now p.alternatives };
+    ghost invariant = { λ p. HasAlternatives p.plan.now p.alternatives };
 }
 
 impl<'a> FieldPlan<'a> {

@@ -7,4 +7,6 @@ pub mod ReadingFacts
 pub mod LyingAlong
 pub mod ListFacts
 pub mod OneList
+pub mod OutlineFacts
+pub mod WholeFacts
 pub mod StringFacts

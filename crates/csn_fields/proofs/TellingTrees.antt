@@ -39,18 +39,19 @@ use Rattle.csn_fields.specs.Events as spec
 use Rattle.csn_fields.specs.Events.{EventsAt, InsideEvents, PartsEvents, TurnsEvents, next_turn, leaf_with}
 use Rattle.csn_fields.specs.Places.{inside_of, role_in, advanced, opened_with, begun_as, begins_as, entered}
 use Rattle.csn_fields.specs.Places.{took_bits, event_of, ends_as}
+use Rattle.csn_fields.specs.Outlines.{told_at}
 use Rattle.csn_fields.specs.Telling.{ToldV, with_event, Goes}
 use Rattle.csn_fields.proofs.PlaceFacts.{at_place, took_bits_are}
 
 -- ---- bits of moves
 
-bits_of-append : (a c : List Move) → bits_of (a ++ c) ≡ bits_of a ++ bits_of c
+pub bits_of-append : (a c : List Move) → bits_of (a ++ c) ≡ bits_of a ++ bits_of c
 bits_of-append [] c = refl
 bits_of-append (Enter i ∷ a) c = bits_of-append a c
 bits_of-append (Bit x ∷ a) c = ap (λ l. x ∷ l) (bits_of-append a c)
 bits_of-append (Leave ∷ a) c = bits_of-append a c
 
-bits_of-map : (b : List ℕ) → bits_of (map Bit b) ≡ b
+pub bits_of-map : (b : List ℕ) → bits_of (map Bit b) ≡ b
 bits_of-map [] = refl
 bits_of-map (x ∷ b) = ap (λ l. x ∷ l) (bits_of-map b)
 
@@ -82,7 +83,7 @@ are_back {o} {w} a b cut at =
     }
 
 -- the bits of a node are those of what it does between its beginning and its end
-inside_bits : {i : ℕ} {moves : List Move} (inside : List Move) → moves ≡ Enter i ∷ (inside ++ Leave ∷ []) → bits_of moves ≡ bits_of inside
+pub inside_bits : {i : ℕ} {moves : List Move} (inside : List Move) → moves ≡ Enter i ∷ (inside ++ Leave ∷ []) → bits_of moves ≡ bits_of inside
 inside_bits inside are = ap (λ l. bits_of l) are ∙ bits_of-append inside (Leave ∷ []) ∙ append-nil (bits_of inside)
 
 -- ---- the number of a leaf
@@ -105,14 +106,11 @@ number_told b are = elim (cases_lt (length b) 65) [
 
 -- ---- states
 
-abbrev pub told_at : List (Option ℕ) → List Begun → ℕ → ℕ → List Event → ToldV
-told_at numbers nodes place number events = record { places = at_place numbers nodes place number; events = events }
-
 -- a node with what its next part is
 abbrev top_of : OpenNode → Inside → Begun
 top_of node inside = record { node = node; inside = inside }
 
-length-advanced : (ns : List Begun) → length (advanced ns) ≡ length ns
+pub length-advanced : (ns : List Begun) → length (advanced ns) ≡ length ns
 length-advanced [] = refl
 length-advanced (top ∷ ns) = refl
 
@@ -138,7 +136,7 @@ module _ (d : DescV) where
       let P : List Move → Type 0 = λ m. Tells d Goes around m others s t in
       subst P e h
 
-  tells_to : {a : List Move} {around others : List ℕ} {s t u : ToldV} → t ≡ u → Tells d Goes around a others s t → Tells d Goes around a others s u
+  pub tells_to : {a : List Move} {around others : List ℕ} {s t u : ToldV} → t ≡ u → Tells d Goes around a others s t → Tells d Goes around a others s u
   tells_to {a = a} {around = around} {others = others} {s = s} e h =
       let P : ToldV → Type 0 = λ x. Tells d Goes around a others s x in
       subst P e h
@@ -248,20 +246,17 @@ module _ (d : DescV) where
         ap (λ l. told_at numbers l o 0 told) (sym (opened (begun_as i (role_in numbers i ns) o n) ns room))
         ∙ ap (λ l. told_at numbers (opened_with (begun_as i (role_in numbers i ns) o n) (advanced ns)) o 0 l) is
 
-    leaf_walks : (n : Node) (kind : LeafKind) (i o : ℕ) (t : TreeV) (b : List ℕ) (inside moves : List Move)
-        (ns : List Begun) (k : ℕ) (es : List Event)
-        (around : List ℕ)
-        → slice_get d.nodes i ≡ Some n → kind_of n ≡ Some kind → bits_of_leaf n o t ≡ Some b → inside ≡ map Bit b
-        → moves ≡ Enter i ∷ (inside ++ Leave ∷ []) → length ns < 64 → AreAt o (bits_of inside)
-        → Walked i o t moves ns k es around
-    leaf_walks n kind i o t b inside moves ns k es around at kind_is leaf_bits inside_is are room bits =
+    pub leaf_moves : (n : Node) (kind : LeafKind) (i o : ℕ) (b : List ℕ) (inside moves : List Move)
+        (ns : List Begun) (k : ℕ) (es : List Event) (around : List ℕ)
+        → slice_get d.nodes i ≡ Some n → kind_of n ≡ Some kind → inside ≡ map Bit b
+        → moves ≡ Enter i ∷ (inside ++ Leave ∷ []) → length ns < 64 → AreAt o b
+        → Tells d Goes around moves around (told_at numbers ns o k es)
+        (told_at numbers (advanced ns) (o + length b) 0 (es ++ event.Leaf (leaf_with i kind (role_in numbers i ns) o b) ∷ []))
+    leaf_moves n kind i o b inside moves ns k es around at kind_is inside_is are room here =
         let role : Role = role_in numbers i ns in
         let begun : Begun = begun_as i role o n in
         let W : ℕ = 18446744073709551616 in
         let leaf : Event = event.Leaf (leaf_with i kind role o b) in
-        let same_bits : bits_of inside ≡ b = ap (λ l. bits_of l) inside_is ∙ bits_of-map b in
-        let here : AreAt o b = subst (λ l. AreAt o l) same_bits bits in
-        let long : length b ≡ length (bits_of moves) = ap (λ l. length l) (sym (inside_bits inside are ∙ same_bits)) in
         let unheard : es ≡ with_event (event_of (at_place numbers ns o k) (Enter i) n) es =
         ap (λ x. with_event (begins_as x i role o) es) (sym kind_is) in
         let last : with_event (Some leaf) es ≡ with_event (event_of (at_place numbers (begun ∷ advanced ns)
@@ -269,19 +264,63 @@ module _ (d : DescV) where
         sym (ap (λ x. with_event (Some (ends_as x begun.node (o + length b) (number_of b % W))) es) kind_is
         ∙ ap (λ e. with_event (Some e) es) (leaf_is i kind role o b begun.node here.are refl refl refl)) in
         let leaves : Tells d Goes (i ∷ around) (Leave ∷ []) around (told_at numbers (begun ∷ advanced ns) (o + length b) (number_of b % W) es)
-        (told_at numbers (advanced ns) (o + length b) (number_of b % W) (es ++ leaf ∷ [])) =
-        tells_leave n (told_at numbers (advanced ns) (o + length b) (number_of b % W) (es ++ leaf ∷ [])) at
-        (ap (λ l. told_at numbers (advanced ns) (o + length b) (number_of b % W) l) last) (tells_none refl refl) in
+        (told_at numbers (advanced ns) (o + length b) 0 (es ++ leaf ∷ [])) =
+        tells_leave n (told_at numbers (advanced ns) (o + length b) 0 (es ++ leaf ∷ [])) at
+        (ap (λ l. told_at numbers (advanced ns) (o + length b) 0 l) last) (tells_none refl refl) in
         let reads = tells_to (ap (λ s. record { places = s; events = es }) (all_bits numbers (begun ∷ advanced ns) o b here))
         (bits_tell numbers n i (begun ∷ advanced ns) b o 0 es around at) in
         let whole : Tells d Goes around (Enter i ∷ (map Bit b ++ Leave ∷ [])) around (told_at numbers ns o k es)
-        (told_at numbers (advanced ns) (o + length b) (number_of b % W) (es ++ leaf ∷ [])) =
+        (told_at numbers (advanced ns) (o + length b) 0 (es ++ leaf ∷ [])) =
         tells_enter n (told_at numbers (begun ∷ advanced ns) o 0 es) at (enters n i o k ns es es room unheard) (tells_then reads leaves) in
-        walked (length b) (number_of b % W) (leaf ∷ []) long
+        tells_by (sym (are ∙ ap (λ l. Enter i ∷ (l ++ Leave ∷ [])) inside_is)) whole
+
+    leaf_walks : (n : Node) (kind : LeafKind) (i o : ℕ) (t : TreeV) (b : List ℕ) (inside moves : List Move)
+        (ns : List Begun) (k : ℕ) (es : List Event)
+        (around : List ℕ)
+        → slice_get d.nodes i ≡ Some n → kind_of n ≡ Some kind → bits_of_leaf n o t ≡ Some b → inside ≡ map Bit b
+        → moves ≡ Enter i ∷ (inside ++ Leave ∷ []) → length ns < 64 → AreAt o (bits_of inside)
+        → Walked i o t moves ns k es around
+    leaf_walks n kind i o t b inside moves ns k es around at kind_is leaf_bits inside_is are room bits =
+        let same_bits : bits_of inside ≡ b = ap (λ l. bits_of l) inside_is ∙ bits_of-map b in
+        let here : AreAt o b = subst (λ l. AreAt o l) same_bits bits in
+        let long : length b ≡ length (bits_of moves) = ap (λ l. length l) (sym (inside_bits inside are ∙ same_bits)) in
+        walked (length b) 0 (event.Leaf (leaf_with i kind (role_in numbers i ns) o b) ∷ []) long
         (spec.events_leaf n kind b at kind_is leaf_bits refl refl)
-        (tells_by (sym (are ∙ ap (λ l. Enter i ∷ (l ++ Leave ∷ [])) inside_is)) whole)
+        (leaf_moves n kind i o b inside moves ns k es around at kind_is inside_is are room here)
 
     -- ---- nodes that are no leaves
+
+    -- so many bits behind its beginning it ends, where these events are told inside it
+    pub node_moves : (n : Node) (i o to k : ℕ) (inside moves : List Move) (ns : List Begun) (last : Inside) (number : ℕ)
+        (es events : List Event) (around : List ℕ)
+        → slice_get d.nodes i ≡ Some n → kind_of n ≡ None → moves ≡ Enter i ∷ (inside ++ Leave ∷ []) → length ns < 64
+        → Tells d Goes (i ∷ around) inside (i ∷ around)
+        (told_at numbers (begun_as i (role_in numbers i ns) o n ∷ advanced ns) o 0 (es ++ event.Begin i (role_in numbers i ns) o ∷ []))
+        (told_at numbers (top_of (begun_as i (role_in numbers i ns) o n).node last ∷ advanced ns) to number
+        ((es ++ event.Begin i (role_in numbers i ns) o ∷ []) ++ events))
+        → Tells d Goes around moves around (told_at numbers ns o k es)
+        (told_at numbers (advanced ns) to 0 (es ++ event.Begin i (role_in numbers i ns) o ∷ (events ++ event.End i to ∷ [])))
+    node_moves n i o to k inside moves ns last number es events around at no_kind are room h =
+        let role : Role = role_in numbers i ns in
+        let begun : Begun = begun_as i role o n in
+        let first : Event = event.Begin i role o in
+        let ended : Event = event.End i to in
+        let begins : es ++ first ∷ [] ≡ with_event (event_of (at_place numbers ns o k) (Enter i) n) es =
+        ap (λ x. with_event (begins_as x i role o) es) (sym no_kind) in
+        let before : List Event = (es ++ first ∷ []) ++ events in
+        let ends : before ++ ended ∷ [] ≡ with_event (event_of (at_place numbers (top_of begun.node last ∷ advanced ns) to number) Leave n) before =
+        ap (λ x. with_event (Some (ends_as x begun.node to number)) before) (sym no_kind) in
+        let leaves : Tells d Goes (i ∷ around) (Leave ∷ []) around (told_at numbers (top_of begun.node last ∷ advanced ns) to number before)
+        (told_at numbers (advanced ns) to 0 (before ++ ended ∷ [])) =
+        tells_leave n (told_at numbers (advanced ns) to 0 (before ++ ended ∷ [])) at
+        (ap (λ l. told_at numbers (advanced ns) to 0 l) ends) (tells_none refl refl) in
+        let whole : Tells d Goes around (Enter i ∷ (inside ++ Leave ∷ [])) around (told_at numbers ns o k es)
+        (told_at numbers (advanced ns) to 0 (before ++ ended ∷ [])) =
+        tells_enter n (told_at numbers (begun ∷ advanced ns) o 0 (es ++ first ∷ [])) at
+        (enters n i o k ns es (es ++ first ∷ []) room begins) (tells_then h leaves) in
+        let all : before ++ ended ∷ [] ≡ es ++ first ∷ (events ++ ended ∷ []) =
+        append_assoc (es ++ first ∷ []) events (ended ∷ []) ∙ append_assoc es (first ∷ []) (events ++ ended ∷ []) in
+        tells_by (sym are) (tells_to (ap (λ l. told_at numbers (advanced ns) to 0 l) all) whole)
 
     node_walks : (n : Node) (i o : ℕ) (t : TreeV) (inside moves : List Move) (ns : List Begun) (k : ℕ) (es : List Event) (around : List ℕ)
         → slice_get d.nodes i ≡ Some n → kind_of n ≡ None → moves ≡ Enter i ∷ (inside ++ Leave ∷ []) → length ns < 64
@@ -289,33 +328,14 @@ module _ (d : DescV) where
         (es ++ event.Begin i (role_in numbers i ns) o ∷ []) around
         → Walked i o t moves ns k es around
     node_walks n i o t inside moves ns k es around at no_kind are room h =
-        let role : Role = role_in numbers i ns in
-        let begun : Begun = begun_as i role o n in
-        let first : Event = event.Begin i role o in
         let to : ℕ = o + length (bits_of inside) in
-        let last : Event = event.End i to in
-        let begins : es ++ first ∷ [] ≡ with_event (event_of (at_place numbers ns o k) (Enter i) n) es =
-        ap (λ x. with_event (begins_as x i role o) es) (sym no_kind) in
-        let before : List Event = (es ++ first ∷ []) ++ h.events in
-        let ends : before ++ last ∷ [] ≡ with_event (event_of (at_place numbers
-        (top_of begun.node h.last ∷ advanced ns) to h.number) Leave n) before =
-        ap (λ x. with_event (Some (ends_as x begun.node to h.number)) before) (sym no_kind) in
-        let leaves : Tells d Goes (i ∷ around) (Leave ∷ []) around (told_at numbers (top_of begun.node h.last ∷ advanced ns) to h.number before)
-        (told_at numbers (advanced ns) to h.number (before ++ last ∷ [])) =
-        tells_leave n (told_at numbers (advanced ns) to h.number (before ++ last ∷ [])) at
-        (ap (λ l. told_at numbers (advanced ns) to h.number l) ends) (tells_none refl refl) in
-        let whole : Tells d Goes around (Enter i ∷ (inside ++ Leave ∷ [])) around (told_at numbers ns o k es)
-        (told_at numbers (advanced ns) to h.number (before ++ last ∷ [])) =
-        tells_enter n (told_at numbers (begun ∷ advanced ns) o 0 (es ++ first ∷ [])) at
-        (enters n i o k ns es (es ++ first ∷ []) room begins) (tells_then h.tells leaves) in
-        let all : before ++ last ∷ [] ≡ es ++ first ∷ (h.events ++ last ∷ []) =
-        append_assoc (es ++ first ∷ []) h.events (last ∷ []) ∙ append_assoc es (first ∷ []) (h.events ++ last ∷ []) in
-        walked (length (bits_of inside)) h.number (first ∷ (h.events ++ last ∷ [])) (ap (λ l. length l) (sym (inside_bits inside are)))
+        walked (length (bits_of inside)) 0 (event.Begin i (role_in numbers i ns) o ∷ (h.events ++ event.End i to ∷ []))
+        (ap (λ l. length l) (sym (inside_bits inside are)))
         (spec.events_node n h.events at h.are refl)
-        (tells_by (sym are) (tells_to (ap (λ l. told_at numbers (advanced ns) to h.number l) all) whole))
+        (node_moves n i o to k inside moves ns h.last h.number es h.events around at no_kind are room h.tells)
 
     -- no moves
-    nothing_tells : (ns : List Begun) (o k : ℕ) (es : List Event) (around : List ℕ)
+    pub nothing_tells : (ns : List Begun) (o k : ℕ) (es : List Event) (around : List ℕ)
         → Tells d Goes around [] around (told_at numbers ns o k es) (told_at numbers ns (o + 0) k (es ++ []))
     nothing_tells ns o k es around =
         tells_none refl

@@ -23,6 +23,29 @@ bits_told tells takes make each node (x ∷ b) p e = (
   bits_told tells takes make each node b (took_bit x p) e,
 )
 
+-- the same of a state that is a part of another
+pub bits_within : {S W : Type 0} (takes : S → Move → Node → S → Type 0) (holds : W → Move → Node → W → Type 0) (wrap : S → W)
+    → ((s t : S) (move : Move) (node : Node) → takes s move node t → holds (wrap s) move node (wrap t))
+    → (node : Node) (b : List ℕ) (s t : S) → BitsTold takes node b s t → BitsTold holds node b (wrap s) (wrap t)
+bits_within takes holds wrap each node [] s t same = ap wrap same
+bits_within takes holds wrap each node (x ∷ b) s t (next, took, rest) = (
+  wrap next,
+  each s next (Bit x) node took,
+  bits_within takes holds wrap each node b next t rest,
+)
+
+-- what each move keeps, all do
+pub kept_along : {S X : Type 0} (d : DescV) (takes : S → Move → Node → S → Type 0) (keep : S → X)
+    → ((s t : S) (move : Move) (node : Node) → takes s move node t → keep t ≡ keep s)
+    → {around others : List ℕ} {moves : List Move} {old new : S} → Tells d takes around moves others old new → keep new ≡ keep old
+kept_along d takes keep each (tells_none same still) = ap keep still
+kept_along d takes keep each {old = old} (tells_enter {i = i} node next at took rest) =
+    kept_along d takes keep each rest ∙ each old next (Enter i) node took
+kept_along d takes keep each {old = old} (tells_bit {bit = bit} node next at took rest) =
+    kept_along d takes keep each rest ∙ each old next (Bit bit) node took
+kept_along d takes keep each {old = old} (tells_leave node next at took rest) =
+    kept_along d takes keep each rest ∙ each old next Leave node took
+
 module _ {E : Type 0} (tells : E → Event → E → Type 0) where
   -- some events more are told
   record Heard (e : Option Event) (events rest : List Event) (old new : E) : Type 0 where

@@ -4,6 +4,8 @@ pub mod Numbers
 pub mod Places
 pub mod Tracks
 pub mod Telling
+pub mod Outlines
+pub mod Alternatives
 pub mod Follower
 pub mod Reading
 pub mod Lists

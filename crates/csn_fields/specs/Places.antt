@@ -106,7 +106,7 @@ without_last [] = []
 without_last (last ∷ outer) = outer
 
 abbrev pub left : PlacesV → PlacesV
-left s = record { numbers = s.numbers; nodes = without_last s.nodes; place = s.place; number = s.number }
+left s = record { numbers = s.numbers; nodes = without_last s.nodes; place = s.place; number = 0 }
 
 -- a node ends at a place
 abbrev pub ends_as : Option LeafKind → OpenNode → ℕ → ℕ → Event

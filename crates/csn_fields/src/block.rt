@@ -3,7 +3,7 @@
 ghost use Rattle.std.specs.Prelude.{◌≡◌, ◌<◌, ◌≤◌, ◌*◌, [], List, length, take};
 ghost use Rattle.csn_bits.specs.Octets.{bits_of_octets};
 ghost use Rattle.csn_fields.specs.declared.event.Event.{Event as EventV};
-ghost use Rattle.csn_fields.specs.Numbers.{HasNumbers};
+ghost use Rattle.csn_fields.specs.Alternatives.{HasAlternatives};
 ghost use Rattle.csn_fields.specs.Lists.{AreLeaves};
 ghost use Rattle.csn_fields.specs.Reading.{EndsTold, EndsWith};
 
@@ -36,7 +36,7 @@ pub fn tell_block<E: Events>(
     block: &Bits,
     events: E,
 ) -> (E, Ended)
-    requires { HasNumbers plan.now alternatives.now }
+    requires { HasAlternatives plan.now alternatives.now }
     ensures { EndsTold E.tells plan.now block.now [] events result.0 result.1 }
 {
     tell_octets(plan, alternatives, block.octets(), block.len(), events)
@@ -50,7 +50,7 @@ pub fn tell_octets<E: Events>(
     bits: u32,
     events: E,
 ) -> (E, Ended)
-    requires numbers { HasNumbers plan.now alternatives.now }
+    requires numbers { HasAlternatives plan.now alternatives.now }
     requires within { bits ≤ 8 * length octets.now }
     requires few { bits ≤ 524288 }
     ensures { EndsTold E.tells plan.now (take bits (bits_of_octets octets.now)) [] events result.0 result.1 }
@@ -60,7 +60,7 @@ pub fn tell_octets<E: Events>(
 
 /// The leaves of a block, in a list.
 pub fn fields_of(alloc: Global, plan: &Plan, alternatives: &Alternatives, block: &Bits) -> Fields
-    requires { HasNumbers plan.now alternatives.now }
+    requires { HasAlternatives plan.now alternatives.now }
     ensures { (events : List EventV) × EndsWith plan.now block.now events result.ended × AreLeaves events result.leaves.items result.short }
 {
     let (list, ended) = tell_block(plan, alternatives, block, LeafList::new(alloc));
@@ -84,7 +84,7 @@ fn tell_with<E: Events, L: Ledger>(
     requires name { blank.name ≡ L.name }
     requires parts { blank.parts ≡ L.parts }
     requires some { 0 < blank.parts }
-    requires numbers { HasNumbers plan.now alternatives.now }
+    requires numbers { HasAlternatives plan.now alternatives.now }
     requires within { bits ≤ 8 * length octets.now }
     requires few { bits ≤ 524288 }
     ensures { EndsTold E.tells plan.now (take bits (bits_of_octets octets.now)) [] events result.0 result.1 }

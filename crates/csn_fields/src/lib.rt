@@ -8,6 +8,8 @@ mod follower;
 pub mod laws;
 mod leaf;
 mod list;
+mod outline;
+mod outlines;
 mod places;
 mod reader;
 mod refusal;

@@ -8,6 +8,7 @@ use crate::refusal::OpenNode;
 use arrayvec::ArrayVec;
 use csn_desc::{MOST_DEPTH, Move, Node};
 use std::marker::Model;
+use std::mem;
 
 /// The most bits whose number is told.
 const MOST_NUMBER: u32 = 64;
@@ -59,18 +60,18 @@ impl<'a> Model for Places<'a> {
 
     ghost Value = { PlacesV };
 
-    ghost view = { λ p. record { numbers = p.alternatives.now; nodes = reverse p.nodes.items; place = p.place; number = p.number } };
+    ghost view = { λ p. record { numbers = p.alternatives.now.numbers; nodes = reverse p.nodes.items; place = p.place; number = p.number } };
 }
 
 impl<'a> Places<'a> {
-    ghost use Rattle.std.specs.Prelude.{◌≡◌, ◌≤◌, ◌<◌};
+    ghost use Rattle.std.specs.Prelude.{◌≡◌, ◌+◌, ◌≤◌, ◌<◌, length, IsTrue};
     ghost use Rattle.csn_bits.specs.Numbers.{low_bits};
     ghost use Rattle.csn_fields.specs.Leaves.{kind_of};
     ghost use Rattle.csn_fields.specs.Places.{nothing, innermost, entered, left, behind, event_of, begins_as, ended_in, role_in, advanced, took_bit, took_bits};
 
     /// Nothing of a block.
     pub fn new(alternatives: &'a Alternatives) -> Places<'a>
-        ensures { result ≡ nothing alternatives.now }
+        ensures { result ≡ nothing alternatives.now.numbers }
     {
         Places {
             alternatives,
@@ -100,6 +101,7 @@ impl<'a> Places<'a> {
     }
 
     /// One move, and the event that is told by it, if there is one.
+    #[inline(always)]
     pub(crate) fn step(&mut self, step: Move, node: &Node) -> Option<Event>
         ensures places { self.new ≡ behind self.old step node.now }
         ensures event { result ≡ event_of self.old step node.now }
@@ -155,20 +157,16 @@ impl<'a> Places<'a> {
           number = self.old.number;
         } }
     {
-        // its length tells that there is room where one is taken away
-        let _count = self.nodes.len();
-        let Some(around) = self.nodes.pop() else {
+        let count = self.nodes.len();
+        if count == 0 {
             return Role::Root;
+        }
+        let Begun { node, inside } = self.nodes[count - 1];
+        self.nodes[count - 1] = Begun {
+            node,
+            inside: inside.next(),
         };
-        let role = around.inside.role(self.alternatives, i);
-        put(
-            &mut self.nodes,
-            Begun {
-                node: around.node,
-                inside: around.inside.next(),
-            },
-        );
-        role
+        inside.role(self.alternatives, i)
     }
 
     /// The innermost node ends, which is a leaf if it has a kind.
@@ -176,8 +174,41 @@ impl<'a> Places<'a> {
         ensures places { self.new ≡ left self.old }
         ensures event { result ≡ ended_in kind self.old.nodes self.old.place self.old.number }
     {
+        let number = mem::replace(&mut self.number, 0);
         let begun = self.nodes.pop()?;
-        Some(begun.node.end(kind, self.place, self.number))
+        Some(begun.node.end(kind, self.place, number))
+    }
+
+    /// The place of the next bit.
+    pub(crate) fn place(&self) -> u32
+        ensures { result ≡ self.now.place }
+    {
+        self.place
+    }
+
+    /// Whether so many more nodes can be open, and 32 bits hold the place behind so many more bits.
+    pub(crate) fn has_room(&self, nodes: usize, bits: u32) -> bool
+        ensures nodes { IsTrue result → length self.now.nodes + nodes ≤ 64 }
+        ensures bits { IsTrue result → self.now.place + bits < 4294967296 }
+    {
+        nodes <= MOST_DEPTH - self.nodes.len() && bits <= u32::MAX - self.place
+    }
+
+    /// Node `i` begins, takes so many bits, and ends. It answers what the node is of the innermost one.
+    pub(crate) fn pass(&mut self, i: u16, bits: u32) -> Role
+        requires { self.old.place + bits < 4294967296 }
+        ensures role { result ≡ role_in self.old.numbers i self.old.nodes }
+        ensures places { self.new ≡ record {
+          numbers = self.old.numbers;
+          nodes = advanced self.old.nodes;
+          place = self.old.place + bits;
+          number = 0;
+        } }
+    {
+        let role = self.begin_part(i);
+        self.place += bits;
+        self.number = 0;
+        role
     }
 
     /// The innermost node takes a bit.
@@ -228,7 +259,7 @@ impl Inside {
 
     /// What node `i` is, which begins as the next part.
     fn role(self, alternatives: &Alternatives, i: u16) -> Role
-        ensures { result ≡ role_by alternatives.now i self }
+        ensures { result ≡ role_by alternatives.now.numbers i self }
     {
         match self {
             Inside::Part => Role::Part,

@@ -3,7 +3,7 @@ ghost use Rattle.csn_bits.specs.Octets.{bits_of_octets};
 ghost use Rattle.csn_fields.specs.declared.event.Event.{Event};
 ghost use Rattle.csn_fields.specs.declared.refusal.Ended.TheVariants.{Refused};
 ghost use Rattle.csn_fields.specs.declared.refusal.Refusal.{Refusal as RefusalV};
-ghost use Rattle.csn_fields.specs.Numbers.{HasNumbers};
+ghost use Rattle.csn_fields.specs.Alternatives.{HasAlternatives};
 ghost use Rattle.csn_fields.specs.Places.{innermost};
 ghost use Rattle.csn_fields.specs.Follower.{Says, credit};
 ghost use Rattle.csn_fields.specs.Reading.{TellsFor, TellsOn, EndsTold, ended_as};
@@ -29,7 +29,7 @@ pub struct FieldReader<'a, E> {
 impl<'a, E: Events> FieldReader<'a, E> {
     /// No bits so far, by a plan and the numbers of its alternatives.
     pub fn new(plan: &'a Plan, alternatives: &'a Alternatives, events: E) -> FieldReader<'a, E>
-        requires { HasNumbers plan.now alternatives.now }
+        requires { HasAlternatives plan.now alternatives.now }
         ensures tells { TellsFor result.follower result.track.places [] [] }
         ensures events { result.track.events ≡ events }
         ensures desc { result.follower.desc ≡ plan.now }

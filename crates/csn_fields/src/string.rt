@@ -5,13 +5,13 @@ ghost use Rattle.csn_bits.specs.Octets.{bits_of_octets};
 ghost use Rattle.csn_judge.specs.declared.verdict.Judged.TheVariants.{Ok};
 ghost use Rattle.csn_judge.specs.Blocks.{IsJudged};
 ghost use Rattle.csn_fields.specs.declared.refusal.Ended.TheVariants.{Whole};
-ghost use Rattle.csn_fields.specs.Numbers.{HasNumbers};
+ghost use Rattle.csn_fields.specs.Alternatives.{HasAlternatives};
 ghost use Rattle.csn_fields.specs.Reading.{EndsTold};
 
 use crate::alternatives::Alternatives;
 use crate::event::Events;
 use crate::places::Places;
-use crate::track::FieldTrack;
+use crate::track::{FieldTrack, WholeTrack};
 use csn_certify::{Plan, Steps};
 use csn_judge::{Judge, Judged, Verdict};
 use std::marker::Brand;
@@ -27,7 +27,7 @@ pub fn tell_string<E: Events>(
     bits: u32,
     events: E,
 ) -> (E, Judged)
-    requires numbers { HasNumbers plan.now alternatives.now }
+    requires numbers { HasAlternatives plan.now alternatives.now }
     requires within { bits ≤ 8 * length octets.now }
     requires few { bits ≤ 524288 }
     ensures judged { IsJudged plan.now (take bits (bits_of_octets octets.now)) result.1 }
@@ -48,7 +48,7 @@ fn string_with<E: Events, L: Ledger>(
     requires name { blank.name ≡ L.name }
     requires parts { blank.parts ≡ L.parts }
     requires some { 0 < blank.parts }
-    requires numbers { HasNumbers plan.now alternatives.now }
+    requires numbers { HasAlternatives plan.now alternatives.now }
     requires within { bits ≤ 8 * length octets.now }
     requires few { bits ≤ 524288 }
     ensures judged { IsJudged plan.now (take bits (bits_of_octets octets.now)) result.1 }
@@ -60,14 +60,17 @@ fn string_with<E: Events, L: Ledger>(
     // its length tells that it is a description, by which bits have one tree
     let _count = plan.len();
     let mut steps = Steps::<L>::new(blank);
-    let mut track = FieldTrack {
-        places: Places::new(alternatives),
-        events,
+    let mut track = WholeTrack {
+        alternatives,
+        track: FieldTrack {
+            places: Places::new(alternatives),
+            events,
+        },
     };
     let mut judge = Judge::new(plan);
     let judged = match judge.feed_to(octets, bits, &mut track, &mut steps) {
         Verdict::Going => judge.finish_to(&mut track, &mut steps),
         Verdict::Refused { place } => Judged::Refused { place },
     };
-    (track.events, judged)
+    (track.track.events, judged)
 }

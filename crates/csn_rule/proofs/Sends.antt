@@ -16,6 +16,8 @@ use Rattle.csn_certify.specs.contracts.pick_table.KeptTable as kept_table
 use Rattle.csn_certify.specs.contracts.pick_tables.PickTables as pick_tables
 use Rattle.csn_certify.specs.contracts.plan.Plan as plan
 use Rattle.csn_movetext.specs.contracts.openings.Openings as openings
+use Rattle.csn_fields.specs.contracts.outline.Mark as mark
+use Rattle.csn_fields.specs.contracts.outline.Outline as outline
 use Rattle.csn_fields.specs.contracts.alternatives.Alternatives as alternatives
 use Rattle.csn_rule.specs.contracts.event.FlatEvent as event
 use Rattle.csn_rule.specs.contracts.rule.Rule as rule
@@ -65,8 +67,14 @@ pick_tables_send = search (crosses, sendable, blocks_send, kept_table_send) dept
 plan_send : IsSend plan.the_row
 plan_send = search (crosses, sendable, desc_send, look_send, reach_send, pick_tables_send) depth 60
 
+mark_send : IsSend mark.the_row
+mark_send = search (crosses, sendable) depth 40
+
+outline_send : IsSend outline.the_row
+outline_send = search (crosses, sendable, mark_send) depth 40
+
 alternatives_send : IsSend alternatives.the_row
-alternatives_send = search (crosses, sendable) depth 40
+alternatives_send = search (crosses, sendable, outline_send) depth 60
 
 event_send : IsSend event.the_row
 event_send = search (crosses, sendable) depth 40

@@ -1,10 +1,10 @@
 -- What stands in the buffer of the caller. (This project's own choice.)
-use Rattle.std.specs.Prelude.{◌≡◌, ℕ, List, length, take, Option}
+use Rattle.std.specs.Prelude.{◌≡◌, ℕ, List, length, take}
 use Rattle.csn_bits.specs.Octets.{bits_of_octets, octets_of}
 use Rattle.csn_desc.specs.Nodes.{DescV}
 use Rattle.csn_desc.specs.TreeV.{TreeV}
 use Rattle.csn_encode.specs.Encoding.{IsBlockOf}
-use Rattle.csn_fields.specs.Numbers.{HasNumbers}
+use Rattle.csn_fields.specs.Alternatives.{AlternativesV, HasAlternatives}
 use Rattle.csn_json.specs.declared.form.TreeForm.{TreeForm}
 use Rattle.csn_movetext.specs.Blocks.{IsTextOfBlock}
 use Rattle.csn_movetext.specs.Openings.{OpeningsV}
@@ -16,9 +16,10 @@ use Rattle.csn_rule.specs.Refusals.{IsRead}
 abbrev pub block_in : List ℕ → ℕ → List ℕ
 block_in octets bits = take bits (bits_of_octets octets)
 
--- what is made of a plan: the openings of its nodes, as text and as JSON, and the numbers of its alternatives
-abbrev pub IsMade : DescV → OpeningsV → OpeningsV → List (Option ℕ) → Type 0
-IsMade d text json alternatives = AreInForms d text json × HasNumbers d alternatives
+-- what is made of a plan: the openings of its nodes, as text and as JSON, and what events
+-- are told by
+abbrev pub IsMade : DescV → OpeningsV → OpeningsV → AlternativesV → Type 0
+IsMade d text json alternatives = AreInForms d text json × HasAlternatives d alternatives
 
 -- the text of the one tree of a block has so many bytes, and stands in the buffer as far as there was room
 pub record Shows (form : TreeForm) (d : DescV) (block : List ℕ) (count : ℕ) (old new : List ℕ) : Type 0 where

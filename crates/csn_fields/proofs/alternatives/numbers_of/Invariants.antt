@@ -1,5 +1,5 @@
 use Rattle.csn_fields.specs.Numbers.{AreNumbers}
-use Rattle.csn_fields.proofs.alternatives.alternatives_of.Given as goal
+use Rattle.csn_fields.proofs.alternatives.numbers_of.Given as goal
 
 -- the choices among the first nodes have numbered their alternatives
 abbrev pub invariant-loop-i : goal.invariant-loop-i

@@ -2,8 +2,8 @@ use Rattle.std.proofs.Common.{◌≡◌, ◌∙◌, length, ap, arith, subst, So
 use Rattle.csn_fields.specs.Numbers.{AreNumbers}
 use Rattle.csn_desc.specs.declared.node.Node.TheVariants.{Choice}
 use Rattle.csn_fields.proofs.NumberFacts.{numbers_same, numbers_next, parts_within}
-use Rattle.csn_fields.proofs.alternatives.alternatives_of.Goals as goal
-use Rattle.csn_fields.proofs.alternatives.alternatives_of.Goals.{in-Choice, in_default}
+use Rattle.csn_fields.proofs.alternatives.numbers_of.Goals as goal
+use Rattle.csn_fields.proofs.alternatives.numbers_of.Goals.{in-Choice, in_default}
 
 pub number_parts-requires : goal.number_parts-requires
 number_parts-requires g c = λ k part get.
