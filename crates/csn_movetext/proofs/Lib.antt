@@ -11,6 +11,7 @@ pub mod TreesFit
 pub mod TreeParts
 pub mod BlockFacts
 pub mod LineFacts
+pub mod StepFacts
 pub mod TemplateFacts
 pub mod Going
 pub mod WholeFacts

@@ -12,6 +12,7 @@ use Rattle.csn_movetext.specs.declared.line.LineText.TheInside.{Inside}
 use Rattle.csn_movetext.specs.declared.line.LineEnd.{LineEnd}
 use Rattle.csn_movetext.specs.declared.line.LineEnd.TheVariants.{Text, Refused, Fault}
 use Rattle.csn_judge.specs.Following.{IsNoString}
+use Rattle.csn_movetext.specs.Blocks as blocks
 use Rattle.csn_movetext.specs.Blocks.{BlockV, WritesFor, AddsText}
 
 -- the form, the description, how many bytes of the line have come, how many octets of its block they gave, what is kept
@@ -34,6 +35,10 @@ line_of t =
       feed = t.feed;
       block = t.given.block;
     }
+
+-- the steps that are paid for by what has come of the line and not taken yet: those of its block
+abbrev pub credit : LineV → ℕ
+credit t = blocks.credit t.block
 
 -- the text has come along these bits, unless memory was wanting
 abbrev pub WritesOrWants : BlockV → List ℕ → Type 0

@@ -2,7 +2,7 @@ ghost use Rattle.std.specs.Prelude.{◌≡◌, ℕ, ◌+◌, ◌*◌, ◌<◌, �
 ghost use Rattle.csn_bits.specs.declared.feed.TheConstants.{MOST_LINE};
 ghost use Rattle.csn_bits.specs.Feed.{Fed, octets_given, seen_of};
 ghost use Rattle.csn_movetext.specs.Openings.{HasOpenings};
-ghost use Rattle.csn_movetext.specs.Lines.{ReadsLine, EndsText, EndsLine};
+ghost use Rattle.csn_movetext.specs.Lines.{ReadsLine, EndsText, EndsLine, credit};
 
 use crate::octet_text::OctetText;
 use crate::openings::Openings;
@@ -64,6 +64,7 @@ impl<'a> LineText<'a> {
         ensures form { result.form ≡ openings.now.form }
         ensures desc { result.desc ≡ plan.now }
         ensures seen { result.seen ≡ 0 }
+        ensures credit { credit result ≡ 8 * length plan.now.nodes }
     {
         LineText {
             feed: HexFeed::new(),
@@ -87,11 +88,11 @@ impl<'a> LineText<'a> {
         ensures form { self.new.form ≡ self.old.form }
         ensures desc { self.new.desc ≡ self.old.desc }
     {
-        self.take_counted::<Brand>(bytes, Blank::new(1))
+        self.take_anew::<Brand>(bytes, Blank::new(1))
     }
 
-    // The same with a counter of steps.
-    fn take_counted<L: Ledger>(&mut self, bytes: &[u8], blank: Blank)
+    // The same with a counter of its own.
+    fn take_anew<L: Ledger>(&mut self, bytes: &[u8], blank: Blank)
         requires name { blank.name ≡ L.name }
         requires parts { blank.parts ≡ L.parts }
         requires some { 0 < blank.parts }
@@ -102,11 +103,23 @@ impl<'a> LineText<'a> {
         ensures desc { self.new.desc ≡ self.old.desc }
     {
         let mut steps = Steps::<L>::new(blank);
+        self.take_counted(bytes, &mut steps);
+    }
+
+    /// The same with a counter of steps: a byte takes at most those of 8 bits.
+    pub fn take_counted<L: Ledger>(&mut self, bytes: &[u8], steps: &mut Steps<L>)
+        requires few { self.old.seen + length bytes.now ≤ MOST_LINE }
+        ensures reads { (line : List ℕ) → ReadsLine self.old line → ReadsLine self.new (line ++ bytes.now) }
+        ensures seen { self.new.seen ≡ self.old.seen + length bytes.now }
+        ensures form { self.new.form ≡ self.old.form }
+        ensures desc { self.new.desc ≡ self.old.desc }
+        ensures steps { steps.new + credit self.new ≤ steps.old + credit self.old + 8 * length self.old.desc.nodes * (8 * length bytes.now) }
+    {
         let mut room = [0; MOST_GIVEN];
         let mut at = 0;
         while at < bytes.len() {
             let until = bytes.len().min(at + MOST_AT_ONCE);
-            at += self.take_some(&bytes[at..until], &mut room, &mut steps);
+            at += self.take_some(&bytes[at..until], &mut room, steps);
         }
     }
 
@@ -126,6 +139,7 @@ impl<'a> LineText<'a> {
         ensures seen { self.new.seen ≡ self.old.seen + result }
         ensures form { self.new.form ≡ self.old.form }
         ensures desc { self.new.desc ≡ self.old.desc }
+        ensures steps { steps.new + credit self.new ≤ steps.old + credit self.old + 8 * length self.old.desc.nodes * (8 * result) }
     {
         let taken = take_next(&mut self.feed, bytes, room);
         self.given.take(&room[taken.from..taken.to], steps);
@@ -143,11 +157,11 @@ impl<'a> LineText<'a> {
         ensures desc { self.new.desc ≡ self.old.desc }
         ensures err { OnErr result ((tail : List ℕ) × (out.new.items ≡ out.old.items ++ tail)) }
     {
-        self.end_counted::<Brand>(out, Blank::new(1))
+        self.end_anew::<Brand>(out, Blank::new(1))
     }
 
-    // The same with a counter of steps.
-    fn end_counted<L: Ledger>(
+    // The same with a counter of its own.
+    fn end_anew<L: Ledger>(
         &mut self,
         out: &mut Vec<u8>,
         blank: Blank,
@@ -161,14 +175,33 @@ impl<'a> LineText<'a> {
         self.end_along(out, &mut steps)
     }
 
-    // The same beside the steps so far.
+    /// The same with a counter of steps: it takes at most those of 8 bits and of the end of a block.
+    pub fn end_counted<L: Ledger>(
+        &mut self,
+        out: &mut Vec<u8>,
+        steps: &mut Steps<L>,
+    ) -> Result<LineEnd, AllocError>
+        ensures ends { IfOk result (λ end. (line : List ℕ) → ReadsLine self.old line
+            → EndsText self.old.form self.old.desc line end out.old.items out.new.items) }
+        ensures anew { ReadsLine self.new [] }
+        ensures seen { self.new.seen ≡ 0 }
+        ensures form { self.new.form ≡ self.old.form }
+        ensures desc { self.new.desc ≡ self.old.desc }
+        ensures err { OnErr result ((tail : List ℕ) × (out.new.items ≡ out.old.items ++ tail)) }
+        ensures steps { steps.new + credit self.new ≤ steps.old + credit self.old + 8 * length self.old.desc.nodes * 9 }
+    {
+        self.end_along(out, steps)
+    }
+
+    // The same, as one relation.
     #[inline(always)]
     fn end_along<L: Ledger>(
         &mut self,
         out: &mut Vec<u8>,
         steps: &mut Steps<L>,
     ) -> Result<LineEnd, AllocError>
-        ensures { EndsLine self.old self.new out.old.items out.new.items result }
+        ensures ends { EndsLine self.old self.new out.old.items out.new.items result }
+        ensures steps { steps.new + credit self.new ≤ steps.old + credit self.old + 8 * length self.old.desc.nodes * 9 }
     {
         let feed = mem::replace(&mut self.feed, HexFeed::new());
         match feed.finish() {
@@ -193,6 +226,7 @@ fn take_next(feed: &mut HexFeed, bytes: &[u8], room: &mut [u8]) -> Taken
         → octets_given (line ++ take result.bytes bytes.now) ≡ octets_given line ++ drop result.from (take result.to room.new) }
     ensures some { 0 < result.bytes }
     ensures within { result.bytes ≤ length bytes.now }
+    ensures count { result.to ≤ result.from + result.bytes }
     ensures seen { seen_of feed.new ≡ seen_of feed.old + result.bytes }
     ensures from { result.from ≤ result.to }
     ensures to { result.to ≤ length room.new }
@@ -216,6 +250,7 @@ fn take_byte(feed: &mut HexFeed, byte: u8, room: &mut [u8]) -> Taken
     ensures given { (line : List ℕ) → Fed feed.old line
         → octets_given (line ++ byte ∷ []) ≡ octets_given line ++ drop result.from (take result.to room.new) }
     ensures bytes { result.bytes ≡ 1 }
+    ensures count { result.to ≤ result.from + 1 }
     ensures seen { seen_of feed.new ≡ seen_of feed.old + 1 }
     ensures from { result.from ≤ result.to }
     ensures to { result.to ≤ length room.new }

@@ -1,7 +1,7 @@
 ghost use Rattle.std.specs.Prelude.{◌≡◌, ℕ, ◌+◌, ◌*◌, ◌≤◌, List, [], ◌++◌, length, take, IfOk, OnErr};
 ghost use Rattle.csn_bits.specs.Octets.{bits_of_octet, bits_of_octets};
 ghost use Rattle.csn_movetext.specs.Openings.{HasOpenings};
-ghost use Rattle.csn_movetext.specs.Blocks.{WritesFor};
+ghost use Rattle.csn_movetext.specs.Blocks.{WritesFor, credit};
 ghost use Rattle.csn_movetext.specs.Lines.{WritesOrWants, EndsBlock};
 
 use crate::block::BlockText;
@@ -31,6 +31,7 @@ impl<'a> OctetText<'a> {
         ensures seen { result.block.seen ≡ 0 }
         ensures form { result.block.form ≡ openings.now.form }
         ensures desc { result.block.desc ≡ plan.now }
+        ensures credit { credit result.block ≡ 8 * length plan.now.nodes }
     {
         OctetText {
             octets: 0,
@@ -48,6 +49,8 @@ impl<'a> OctetText<'a> {
         ensures seen { self.new.block.seen ≤ 8 * self.new.octets }
         ensures form { self.new.block.form ≡ self.old.block.form }
         ensures desc { self.new.block.desc ≡ self.old.block.desc }
+        ensures steps { steps.new + credit self.new.block
+            ≤ steps.old + credit self.old.block + 8 * length self.old.block.desc.nodes * (8 * length octets.now) }
     {
         let count = octets.len() as u32;
         self.octets += count;
@@ -74,6 +77,8 @@ impl<'a> OctetText<'a> {
         ensures seen { self.new.block.seen ≡ 0 }
         ensures form { self.new.block.form ≡ self.old.block.form }
         ensures desc { self.new.block.desc ≡ self.old.block.desc }
+        ensures steps { steps.new + credit self.new.block
+            ≤ steps.old + credit self.old.block + 8 * length self.old.block.desc.nodes * bits + 8 * length self.old.block.desc.nodes }
     {
         let all = 8 * self.octets + u32::from(bits);
         self.octets = 0;
@@ -92,6 +97,7 @@ impl<'a> OctetText<'a> {
         ensures seen { self.new.block.seen ≡ 0 }
         ensures form { self.new.block.form ≡ self.old.block.form }
         ensures desc { self.new.block.desc ≡ self.old.block.desc }
+        ensures steps { steps.new + credit self.new.block ≤ steps.old + credit self.old.block + 8 * length self.old.block.desc.nodes }
     {
         self.octets = 0;
         self.block.give_up(steps);

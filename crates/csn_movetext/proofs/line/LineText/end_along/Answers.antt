@@ -1,9 +1,10 @@
-use Rattle.std.proofs.Common.{ℕ, List, [], ◌≤◌, IfOk, refl, sym, ap, ◌∙◌, subst, arith}
+use Rattle.std.proofs.Common.{ℕ, List, [], length, ◌+◌, ◌*◌, ◌≤◌, IfOk, refl, sym, ap, ◌∙◌, subst, arith}
 use Rattle.csn_bits.specs.Feed.{Fed, EndsWith, seen_of}
 use Rattle.csn_bits.specs.declared.feed.HexFeed.{HexFeed}
 use Rattle.csn_movetext.specs.declared.line.LineEnd.{LineEnd}
-use Rattle.csn_movetext.specs.Lines.{LineV, ReadsLine, EndsText, line_of}
+use Rattle.csn_movetext.specs.Lines.{LineV, ReadsLine, EndsText, credit, line_of}
 use Rattle.csn_movetext.proofs.LineFacts.{few_given, reads_anew, ends_with, if_ok, ends_empty, ends_last, few_bits}
+use Rattle.csn_movetext.proofs.StepFacts.{steps_of_end}
 use Rattle.csn_movetext.proofs.line.LineText.end_along.Goals as goal
 
 pub end-requires-clause-few : goal.end-requires-clause-few
@@ -20,8 +21,8 @@ invariant_of-self g c = (
       c.new.ensures.seen c.end.ensures.octets c.end.ensures.seen c.end.ensures.writes,
 )
 
-pub returns-in-Empty : goal.returns-in-Empty
-returns-in-Empty g c = record {
+pub returns-in-Empty-clause-ends : goal.returns-in-Empty-clause-ends
+returns-in-Empty-clause-ends g c = record {
   ends =
       let t : LineV = line_of c.self.inside in
       let old : List ℕ = c.args.out.now.items in
@@ -69,8 +70,8 @@ invariant_of-self-in-Last g c = (
       c.end-in-Last.ensures.writes,
 )
 
-pub returns-in-Last : goal.returns-in-Last
-returns-in-Last g c = record {
+pub returns-in-Last-clause-ends : goal.returns-in-Last-clause-ends
+returns-in-Last-clause-ends g c = record {
   ends =
       let t : LineV = line_of c.self.inside in
       let old : List ℕ = c.args.out.now.items in
@@ -102,8 +103,8 @@ invariant_of-self-in-Fault g c = (
       c.new.ensures.fed c.new.ensures.seen c.give_up.ensures.octets c.give_up.ensures.seen c.give_up.ensures.writes,
 )
 
-pub returns-in-Fault : goal.returns-in-Fault
-returns-in-Fault g c = record {
+pub returns-in-Fault-clause-ends : goal.returns-in-Fault-clause-ends
+returns-in-Fault-clause-ends g c = record {
   ends = λ line reads_now.
       let reads : ReadsLine (line_of c.self.inside) line = subst (λ (t : LineV). ReadsLine t line) (sym c.self.view_is) reads_now in
       (c.in-Fault.ensures.ends line (subst (λ (f : HexFeed). Fed f line) (sym c.replace-feed.ensures.value) reads.fed), refl);
@@ -120,3 +121,26 @@ end-requires-clause-seen g c = let reads : ReadsLine (line_of c.self.inside) c.s
 
 pub end-requires-in-Last-clause-seen : goal.end-requires-in-Last-clause-seen
 end-requires-in-Last-clause-seen g c = let reads : ReadsLine (line_of c.self.inside) c.self.invariant.0 = c.self.invariant.1 in reads.few
+
+pub returns-in-Empty-clause-steps : goal.returns-in-Empty-clause-steps
+returns-in-Empty-clause-steps g c =
+    let new : LineV = line_of (record { feed = c.replace-feed.new.dest; given = c.end.new.self }) in
+    subst (λ (t : LineV). c.end.new.steps + credit new ≤ c.args.steps.now + credit t + 8 * length t.desc.nodes * 9) c.self.view_is
+    (steps_of_end _ _ _ 0 (omega arith) c.end.ensures.steps)
+
+pub returns-in-Last-clause-steps : goal.returns-in-Last-clause-steps
+returns-in-Last-clause-steps g c =
+    let new : LineV = line_of (record { feed = c.replace-feed.new.dest; given = c.end-in-Last.new.self }) in
+    let line : List ℕ = c.self.invariant.0 in
+    let reads : ReadsLine (line_of c.self.inside) line = c.self.invariant.1 in
+    let last : EndsWith line c.in-Last.octet c.in-Last.bits =
+    c.in-Last.ensures.ends line (subst (λ (f : HexFeed). Fed f line) (sym c.replace-feed.ensures.value) reads.fed)
+    in
+    subst (λ (t : LineV). c.end-in-Last.new.steps + credit new ≤ c.args.steps.now + credit t + 8 * length t.desc.nodes * 9) c.self.view_is
+    (steps_of_end _ _ _ c.in-Last.bits last.few c.end-in-Last.ensures.steps)
+
+pub returns-in-Fault-clause-steps : goal.returns-in-Fault-clause-steps
+returns-in-Fault-clause-steps g c =
+    let new : LineV = line_of (record { feed = c.replace-feed.new.dest; given = c.give_up.new.self }) in
+    subst (λ (t : LineV). c.give_up.new.steps + credit new ≤ c.args.steps.now + credit t + 8 * length t.desc.nodes * 9) c.self.view_is
+    (omega (arith, c.give_up.ensures.steps))

@@ -1,7 +1,9 @@
-use Rattle.std.proofs.Common.{ℕ, ◌-◌, List, ◌++◌, take, drop, subst, arith, ◌∙◌}
+use Rattle.std.proofs.Common.{ℕ, ◌+◌, ◌-◌, ◌*◌, ◌≤◌, List, ◌++◌, length, take, drop, subst, arith, ◌∙◌}
 use Rattle.std.proofs.lemmas.List.{take_all}
-use Rattle.csn_movetext.specs.Lines.{LineV, ReadsLine}
+use Rattle.csn_desc.specs.Nodes.{DescV}
+use Rattle.csn_movetext.specs.Lines.{LineV, ReadsLine, credit}
 use Rattle.csn_movetext.proofs.LineFacts.{part_taken, part_within, more_taken}
+use Rattle.csn_movetext.proofs.StepFacts.{steps_more}
 use Rattle.csn_movetext.proofs.line.LineText.take_counted.Goals as goal
 
 pub loop-at-preserved : goal.loop-at-preserved
@@ -20,8 +22,18 @@ loop-at-preserved g c =
       seen = omega (arith, c.take_some-at.ensures.seen, c.loop-at.invariant.seen);
       form = c.take_some-at.ensures.form ∙ c.loop-at.invariant.form;
       desc = c.take_some-at.ensures.desc ∙ c.loop-at.invariant.desc;
+      steps =
+          steps_more _ _ _ _ at count c.loop-at.invariant.steps
+          (subst (λ (d : DescV). c.take_some-at.new.steps + credit new ≤ c.loop-at.steps + credit c.loop-at.self + 8 * length d.nodes * (8 * count))
+          c.loop-at.invariant.desc c.take_some-at.ensures.steps);
     }
 
 pub returns-clause-reads : goal.returns-clause-reads
 returns-clause-reads g c = λ line reads.
     subst (λ l. ReadsLine c.loop-at.self (line ++ l)) (take_all c.loop-at.at c.args.bytes.now c.loop-at-test.false) (c.loop-at.invariant.reads line reads)
+
+pub returns-clause-steps : goal.returns-clause-steps
+returns-clause-steps g c =
+    subst (λ (n : ℕ). c.loop-at.steps + credit c.loop-at.self
+    ≤ c.args.steps.now + credit c.args.self.now + 8 * length c.args.self.now.desc.nodes * (8 * n))
+    (omega (arith, c.loop-at.invariant.within, c.loop-at-test.false)) c.loop-at.invariant.steps

@@ -1,8 +1,9 @@
-use Rattle.std.proofs.Common.{◌≡◌, ◌+◌, ◌-◌, ℕ, List, ◌++◌, length, take, drop, ap, sym, subst, arith, ◌∙◌}
-use Rattle.std.proofs.lemmas.List.{length-take-le}
+use Rattle.std.proofs.Common.{◌≡◌, ◌+◌, ◌-◌, ◌*◌, ◌≤◌, ℕ, List, ◌++◌, length, take, drop, ap, sym, subst, arith, ◌∙◌}
+use Rattle.std.proofs.lemmas.List.{length-take, length-take-le}
 use Rattle.csn_bits.specs.Feed.{octets_given}
-use Rattle.csn_movetext.specs.Lines.{LineV, ReadsLine, line_of}
+use Rattle.csn_movetext.specs.Lines.{LineV, ReadsLine, credit, line_of}
 use Rattle.csn_movetext.proofs.LineFacts.{part_is, few_more, reads_more}
+use Rattle.csn_movetext.proofs.StepFacts.{steps_fewer}
 use Rattle.csn_movetext.proofs.line.LineText.take_some.Goals as goal
 
 pub take-requires-clause-few : goal.take-requires-clause-few
@@ -81,3 +82,19 @@ returns-clause-form g c = c.take.ensures.form ∙ ap (λ (t : LineV). t.form) c.
 
 pub returns-clause-desc : goal.returns-clause-desc
 returns-clause-desc g c = c.take.ensures.desc ∙ ap (λ (t : LineV). t.desc) c.self.view_is
+
+pub returns-clause-steps : goal.returns-clause-steps
+returns-clause-steps g c =
+    let new : LineV = line_of (record { feed = c.take_next-taken.new.feed; given = c.take.new.self }) in
+    let part : List ℕ = take (c.take_next-taken.result.to - c.take_next-taken.result.from)
+    (drop c.take_next-taken.result.from c.take_next-taken.new.room) in
+    let few : length part ≤ c.take_next-taken.result.bytes =
+    omega (
+      arith,
+      c.take_next-taken.ensures.count,
+      length-take (c.take_next-taken.result.to - c.take_next-taken.result.from)
+          (drop c.take_next-taken.result.from c.take_next-taken.new.room),
+    ) in
+    subst (λ (t : LineV). c.take.new.steps + credit new ≤ c.args.steps.now + credit t + 8 * length t.desc.nodes * (8 * c.take_next-taken.result.bytes))
+    c.self.view_is
+    (steps_fewer _ _ _ (length part) c.take_next-taken.result.bytes few c.take.ensures.steps)

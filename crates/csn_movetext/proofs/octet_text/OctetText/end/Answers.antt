@@ -7,6 +7,7 @@ use Rattle.csn_movetext.specs.declared.fault.BlockFault.TheVariants as fault
 use Rattle.csn_judge.specs.Following.{IsNoString}
 use Rattle.csn_movetext.specs.Blocks.{BlockV, WritesFor, AddsText, Ends}
 use Rattle.csn_movetext.proofs.LineFacts.{goes_on_within, bits_with}
+use Rattle.csn_movetext.proofs.StepFacts.{steps_to_end}
 use Rattle.csn_movetext.proofs.octet_text.OctetText.end.Goals as goal
 
 pub returns-in-Ok-clause-ends : goal.returns-in-Ok-clause-ends
@@ -43,3 +44,18 @@ returns-in-Err-Refused-clause-ends g c =
       subst (λ d. IsNoString d (b ++ bits) c.in-Err-Refused.place) c.feed-fed.ensures.desc (refused (b ++ bits) for),
       c.in-Err-Refused.ensures.same c.in-Err-Refused.place (ap (λ y. Err y) c.in-Err-Refused.field-0-is),
     )
+
+pub returns-in-Ok-clause-steps : goal.returns-in-Ok-clause-steps
+returns-in-Ok-clause-steps g c =
+    steps_to_end c.args.self.now.block c.feed-fed.new.self _ _ _ _ _ c.from-2.ensures c.feed-fed.ensures.desc
+    c.feed-fed.ensures.steps c.next_block.ensures.steps
+
+pub returns-in-Err-Refused-clause-steps : goal.returns-in-Err-Refused-clause-steps
+returns-in-Err-Refused-clause-steps g c =
+    steps_to_end c.args.self.now.block c.feed-fed.new.self _ _ _ _ _ c.from-2.ensures c.feed-fed.ensures.desc
+    c.feed-fed.ensures.steps c.next_block.ensures.steps
+
+pub returns-in-Err-NoMemory-clause-steps : goal.returns-in-Err-NoMemory-clause-steps
+returns-in-Err-NoMemory-clause-steps g c =
+    steps_to_end c.args.self.now.block c.feed-fed.new.self _ _ _ _ _ c.from-2.ensures c.feed-fed.ensures.desc
+    c.feed-fed.ensures.steps c.next_block.ensures.steps

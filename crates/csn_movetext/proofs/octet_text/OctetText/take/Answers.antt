@@ -14,3 +14,6 @@ returns-clause-writes g c =
     subst (λ l. WritesOrWants new (b ++ l)) (whole_bits octets all refl)
     (goes_on c.args.self.now.block new (take all (bits_of_octets octets)) c.feed-fed.result c.feed-fed.ensures.answer
     c.feed-fed.ensures.stays c.feed-fed.ensures.writes b writes)
+
+pub returns-clause-steps : goal.returns-clause-steps
+returns-clause-steps g c = c.feed-fed.ensures.steps
