@@ -52,9 +52,9 @@ all_digits block place bits at end from past until short long =
 
 -- the pieces of a line with tabs between, each pushed behind a text
 pub pieces_joined :
-    (old n1 n2 n3 n4 n5 n6 n7 n8 n9 n10 a b c d e : List ℕ)
-    → n1 ≡ old ++ a → n2 ≡ n1 ++ 9 ∷ [] → n3 ≡ n2 ++ b → n4 ≡ n3 ++ 9 ∷ [] → n5 ≡ n4 ++ c → n6 ≡ n5 ++ 9 ∷ []
-    → n7 ≡ n6 ++ d → n8 ≡ n7 ++ 9 ∷ [] → n9 ≡ n8 ++ e → n10 ≡ n9 ++ 10 ∷ []
-    → n10 ≡ old ++ (a ++ 9 ∷ (b ++ 9 ∷ (c ++ 9 ∷ (d ++ 9 ∷ (e ++ 10 ∷ [])))))
-pieces_joined old n1 n2 n3 n4 n5 n6 n7 n8 n9 n10 a b c d e e1 e2 e3 e4 e5 e6 e7 e8 e9 e10 =
-    rw (e10, e9, e8, e7, e6, e5, e4, e3, e2, e1) (simp append_assoc)
+    (old n1 n2 n3 n4 n5 n6 n7 n8 a b c d e : List ℕ)
+    → n1 ≡ old ++ a → n2 ≡ n1 ++ 9 ∷ [] → n3 ≡ n2 ++ b → n4 ≡ n3 ++ (9 ∷ (c ++ 9 ∷ []))
+    → n5 ≡ n4 ++ d → n6 ≡ n5 ++ 9 ∷ [] → n7 ≡ n6 ++ e → n8 ≡ n7 ++ 10 ∷ []
+    → n8 ≡ old ++ (a ++ 9 ∷ (b ++ 9 ∷ (c ++ 9 ∷ (d ++ 9 ∷ (e ++ 10 ∷ [])))))
+pieces_joined old n1 n2 n3 n4 n5 n6 n7 n8 a b c d e e1 e2 e3 e4 e5 e6 e7 e8 =
+    rw (e8, e7, e6, e5, e4, e3, e2, e1) (simp append_assoc)

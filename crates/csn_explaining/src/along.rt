@@ -5,7 +5,7 @@ use crate::path::PathText;
 use crate::writer::{LeafWriter, Standing};
 use csn_bits::Bits;
 use csn_certify::Plan;
-use csn_fields::{Ended, Event, Events, Leaf};
+use csn_fields::{Event, Events, Leaf, Role};
 use std::alloc::AllocError;
 
 /// What was told of a block that ended.
@@ -13,8 +13,8 @@ use std::alloc::AllocError;
 pub(crate) struct Told<W> {
     pub path: PathText,
     pub writer: W,
-    /// How the block ended, where there was memory to tell it.
-    pub ended: Result<Ended, AllocError>,
+    /// Whether memory was refused.
+    pub is_short: bool,
 }
 
 /// Follows the way to each leaf of a block, and hands it to a writer, while there is memory.
@@ -41,8 +41,8 @@ impl<'a, W: LeafWriter> Along<'a, W> {
         }
     }
 
-    /// Ends the block so.
-    pub fn finish(self, ended: Ended) -> Told<W> {
+    /// The block has ended.
+    pub fn finish(self) -> Told<W> {
         let Along {
             path,
             writer,
@@ -52,13 +52,24 @@ impl<'a, W: LeafWriter> Along<'a, W> {
         Told {
             path,
             writer,
-            ended: if is_short { Err(AllocError) } else { Ok(ended) },
+            is_short,
         }
     }
 
-    /// Hands a leaf to the writer.
+    /// Goes to a leaf, and out of it.
     fn tell(&mut self, leaf: Leaf) -> Result<(), AllocError> {
+        // a part adds nothing to the way
+        if leaf.role == Role::Part {
+            return self.write(leaf);
+        }
         self.path.enter(leaf.role, None)?;
+        self.write(leaf)?;
+        self.path.leave();
+        Ok(())
+    }
+
+    /// Hands a leaf to the writer, to which the way leads.
+    fn write(&mut self, leaf: Leaf) -> Result<(), AllocError> {
         self.writer.leaf(Standing {
             leaf,
             block: self.block,
@@ -66,7 +77,6 @@ impl<'a, W: LeafWriter> Along<'a, W> {
             chosen: self.path.chosen(),
         })?;
         self.path.pass_leaf();
-        self.path.leave();
         Ok(())
     }
 

@@ -12,6 +12,7 @@ use csn_bits::{Bits, BitsFault};
 use csn_certify::Plan;
 use csn_desc::Node;
 use csn_fields::{Ended, Refusal, Role};
+use csn_judge::Judged;
 use std::alloc::{AllocError, Global};
 use std::mem;
 
@@ -24,16 +25,28 @@ pub struct BlockTeller<'a, W> {
     wanted: Vec<u8>,
 }
 
-/// Tells a writer the leaves of a block.
+/// Tells a writer the leaves of a block that is a string.
+fn read_string<W: LeafWriter>(
+    plan: &FieldPlan<'_>,
+    block: &Bits,
+    path: PathText,
+    writer: W,
+) -> (Told<W>, Judged) {
+    let along = Along::new(plan.plan(), block, path, writer);
+    let (along, judged) = plan.tell_string(block, along);
+    (along.finish(), judged)
+}
+
+/// Tells a writer the leaves of a block, as far as it can be followed.
 fn read_leaves<W: LeafWriter>(
     plan: &FieldPlan<'_>,
     block: &Bits,
     path: PathText,
     writer: W,
-) -> Told<W> {
+) -> (Told<W>, Ended) {
     let along = Along::new(plan.plan(), block, path, writer);
     let (along, ended) = plan.tell(block, along);
-    along.finish(ended)
+    (along.finish(), ended)
 }
 
 /// Writes the answer to a line that is no block line.
@@ -99,23 +112,54 @@ impl<'a, W: LeafWriter + Drop> BlockTeller<'a, W> {
         })
     }
 
-    /// Tells the writer the leaves of a block, and gives how it ends.
-    fn tell_leaves(&mut self, alloc: Global, block: &Bits) -> Result<Ended, AllocError> {
-        let path = mem::replace(&mut self.path, PathText::new(alloc));
-        let writer = mem::replace(&mut self.writer, W::new(alloc));
+    /// Puts back what was taken to tell a block.
+    fn put_back(&mut self, told: Told<W>) -> Result<(), AllocError> {
         let Told {
             path,
             writer,
-            ended,
-        } = read_leaves(&self.plan, block, path, writer);
+            is_short,
+        } = told;
         self.path = path;
         self.writer = writer;
-        ended
+        if is_short { Err(AllocError) } else { Ok(()) }
+    }
+
+    /// Tells the writer the leaves of a block, and gives how it ends. One that is no string is told again from its
+    /// beginning on, as far as it can be followed.
+    fn tell_leaves(
+        &mut self,
+        alloc: Global,
+        line: &[u8],
+        block: &Bits,
+    ) -> Result<Ended, AllocError> {
+        let path = mem::replace(&mut self.path, PathText::new(alloc));
+        let writer = mem::replace(&mut self.writer, W::new(alloc));
+        let (told, judged) = read_string(&self.plan, block, path, writer);
+        self.put_back(told)?;
+        match judged {
+            Judged::Ok => Ok(Ended::Whole),
+            Judged::Refused { .. } => self.tell_front(alloc, line, block),
+        }
+    }
+
+    /// Tells the writer the leaves of a block from its beginning on, as far as it can be followed.
+    fn tell_front(
+        &mut self,
+        alloc: Global,
+        line: &[u8],
+        block: &Bits,
+    ) -> Result<Ended, AllocError> {
+        let path = mem::replace(&mut self.path, PathText::new(alloc));
+        let mut writer = mem::replace(&mut self.writer, W::new(alloc));
+        writer.begin(line)?;
+        let (told, ended) = read_leaves(&self.plan, block, path, writer);
+        self.put_back(told)?;
+        Ok(ended)
     }
 
     /// Tells the writer the leaves of a block, and how it ends.
-    fn read(&mut self, alloc: Global, block: &Bits) -> Result<Answered, AllocError> {
-        match self.tell_leaves(alloc, block)? {
+    fn read(&mut self, alloc: Global, line: &[u8], block: &Bits) -> Result<Answered, AllocError> {
+        match self.tell_leaves(alloc, line, block)? {
             Ended::Whole => {
                 self.writer.end()?;
                 Ok(Answered::Given)
@@ -145,7 +189,7 @@ impl<'a, W: LeafWriter + Drop> LineTeller for BlockTeller<'a, W> {
     ) -> Result<Answered, AllocError> {
         self.writer.begin(line)?;
         let answered = match Bits::from_hex_line(alloc, line) {
-            Ok(block) => self.read(alloc, &block)?,
+            Ok(block) => self.read(alloc, line, &block)?,
             Err(fault) => self.refuse(alloc, fault)?,
         };
         out.extend_from_slice(self.writer.text())?;

@@ -1,18 +1,31 @@
 //! The fields of a block as lines for other programs: a line a leaf, and one that closes the block.
 
-ghost use Rattle.std.specs.Prelude.{◌≡◌, ◌++◌, OnOk};
-ghost use Rattle.csn_explaining.specs.LeafLine.{leaf_line, value_text};
+ghost use Rattle.std.specs.Prelude.{◌≡◌, [], ◌∷◌, ◌++◌, OnOk};
+ghost use Rattle.csn_explaining.specs.LeafLine.{kind_text, leaf_line, value_text};
 
 use crate::text::{push_bits, push_count, push_number, push_verdict};
-use crate::writer::{LeafWriter, Standing, Stopped, kind_word};
+use crate::writer::{LeafWriter, Standing, Stopped};
 use csn_bits::Bits;
-use csn_fields::Leaf;
+use csn_fields::{Leaf, LeafKind};
 use std::alloc::{AllocError, Global};
 
 /// Writes a line for each leaf: its place, its number of bits, its kind, its value and the way to it, with tabs between.
 #[derive(Drop)]
 pub struct FieldLines {
     text: Vec<u8>,
+}
+
+/// The word for a kind of leaf, between tabs.
+fn kind_cell(kind: LeafKind) -> &'static [u8]
+    ensures { result.now ≡ 9 ∷ (kind_text kind ++ 9 ∷ []) }
+{
+    match kind {
+        LeafKind::Literal => b"\tliteral\t",
+        LeafKind::Spare => b"\tspare\t",
+        LeafKind::Field => b"\tfield\t",
+        LeafKind::Rest => b"\trest\t",
+        LeafKind::Padding => b"\tpadding\t",
+    }
 }
 
 /// Writes the value of a leaf: a number where it has at most 64 bits, else the bits.
@@ -34,9 +47,7 @@ fn push_leaf(out: &mut Vec<u8>, standing: Standing<'_>) -> Result<(), AllocError
     push_count(out, leaf.place)?;
     out.push(b'\t')?;
     push_count(out, leaf.bits)?;
-    out.push(b'\t')?;
-    out.extend_from_slice(kind_word(leaf.kind))?;
-    out.push(b'\t')?;
+    out.extend_from_slice(kind_cell(leaf.kind))?;
     push_value(out, leaf, standing.block)?;
     out.push(b'\t')?;
     out.extend_from_slice(standing.path)?;

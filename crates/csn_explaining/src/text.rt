@@ -1,6 +1,6 @@
 //! Numbers and bits in the text that is written.
 
-ghost use Rattle.std.specs.Prelude.{◌≡◌, ◌≤◌, ◌++◌, OnOk, OnErr, drop, take};
+ghost use Rattle.std.specs.Prelude.{◌≡◌, ◌<◌, ◌≤◌, ◌++◌, OnOk, OnErr, drop, take};
 ghost use Rattle.std.specs.Fmt.{decimal};
 ghost use Rattle.csn_explaining.specs.LeafLine.{digits_of};
 
@@ -12,12 +12,29 @@ use std::alloc::AllocError;
 const MOST_GROUPS: u32 = 8;
 
 /// Writes a number in decimal.
+#[tactic(auto, using(crate::proofs::Decimals::one_digit))]
 pub fn push_number(out: &mut Vec<u8>, number: u64) -> Result<(), AllocError>
     ensures ok { OnOk result (out.new.items ≡ out.old.items ++ decimal number) }
     ensures err { OnErr result (out.new.items ≡ out.old.items) }
 {
+    if number < 10 {
+        return Ok(out.push(b'0' + number as u8)?);
+    }
+    if number < 100 {
+        return out.extend_from_slice(&two_digits(number));
+    }
     let mut buffer = Buffer::new();
     out.extend_from_slice(buffer.format(number).as_bytes())
+}
+
+/// The digits of a number that has two.
+#[tactic(auto, using(crate::proofs::Decimals::two_digits))]
+fn two_digits(number: u64) -> [u8; 2]
+    requires many { 10 ≤ number }
+    requires few { number < 100 }
+    ensures { result ≡ decimal number }
+{
+    [b'0' + (number / 10) as u8, b'0' + (number % 10) as u8]
 }
 
 /// Writes a number of 32 bits in decimal.
@@ -25,8 +42,7 @@ pub fn push_count(out: &mut Vec<u8>, count: u32) -> Result<(), AllocError>
     ensures ok { OnOk result (out.new.items ≡ out.old.items ++ decimal count) }
     ensures err { OnErr result (out.new.items ≡ out.old.items) }
 {
-    let mut buffer = Buffer::new();
-    out.extend_from_slice(buffer.format(count).as_bytes())
+    push_number(out, u64::from(count))
 }
 
 /// The digit that writes a number below 16 in hexadecimal.
@@ -74,8 +90,9 @@ pub fn push_bits(out: &mut Vec<u8>, block: &Bits, place: u32, bits: u32) -> Resu
     ensures { OnOk result (out.new.items ≡ out.old.items ++ digits_of (take bits (drop place block.now))) }
 {
     let end = block.len().min(place.saturating_add(bits));
+    out.reserve(end.saturating_sub(place) as usize)?;
     for at in place..end {
-        out.push(b'0' + block.get(at))?;
+        out.push_reserved(b'0' + block.get(at));
     }
     Ok(())
 }
