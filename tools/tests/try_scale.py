@@ -7,6 +7,7 @@ import json
 import os
 import random
 import re
+import shlex
 import shutil
 import signal
 import subprocess
@@ -17,12 +18,14 @@ from dataclasses import dataclass
 from pathlib import Path
 
 from made import HEADS, LINKS, pcap, pcapng, tap
-from tried import EXAMPLES, TOOLS, Tried
+from places import Place
+from tried import EXAMPLES, Tried
 from try_back import segment_lines
 
 COUNT = re.compile(r"(entry \w+|refused|bits) (\d+)")
-PAGE = TOOLS / "README.md"
-STATUSES = range(124)          # of engines: how many runs ended by another status than 0, and 123 of xargs
+# How the page has a cluster of several machines.
+SCHEDULER, WORKER, ADDRESS = "dask scheduler --port 8786", "dask worker tcp://10.0.0.1:8786 --nthreads 1", "tcp://10.0.0.1:8786"
+ANSWERED = "tools/on_dask.py tcp://10.0.0.1:8786 received part-??"
 
 
 @dataclass
@@ -68,29 +71,6 @@ def found_in(text: str) -> Wanted:
     answers = [row for row in rows if not COUNT.fullmatch(row.rstrip("\n"))]
     counts = {count[1]: int(count[2]) for count in map(COUNT.fullmatch, map(str.rstrip, rows)) if count}
     return Wanted(len(answers), hashlib.sha256("".join(answers).encode()).hexdigest(), counts)
-
-
-@dataclass
-class Place:
-    """A folder in which the commands of the page run."""
-
-    tried: Tried
-    folder: Path
-
-    def run(self, command: str, file: str = "") -> None:
-        """Runs a command as it stands in the page; what it prints goes into a file, where one is named."""
-        self.tried.same(f"the page has {command}", f"    $ {command}\n" in PAGE.read_text(), True)
-        command = command.replace("gsmtap.py ", f"gsmtap.py --bin '{self.tried.program}' ")
-        path = f"{self.folder}:{os.environ['PATH']}"
-        ran = subprocess.run(["sh", "-c", command], cwd=self.folder, stdin=subprocess.DEVNULL, capture_output=True,
-                             env={**os.environ, "PATH": path}, check=False)
-        if file:
-            (self.folder / file).write_bytes(ran.stdout)
-        if ran.returncode not in STATUSES:
-            self.tried.same(f"the status of {command}", (ran.returncode, ran.stderr), 0)
-
-    def text(self, file: str) -> str:
-        return (self.folder / file).read_text()
 
 
 def try_parallel(place: Place, wanted: Wanted) -> None:
@@ -161,10 +141,15 @@ def try_segments(place: Place) -> None:
 def python_with_distributed() -> str:
     """A Python that has dask.distributed, or nothing."""
     for python in (sys.executable, "/usr/bin/python3"):
-        ran = subprocess.run([python, "-c", "import distributed"], capture_output=True, check=False)
+        ran = subprocess.run([python, "-c", "import dask.__main__, distributed"], capture_output=True, check=False)
         if ran.returncode == 0:
             return python
     return ""
+
+
+def on_this_machine(place: Place, command: str, address: str = "") -> list[str]:
+    """The words of a command of the page, with the address of this cluster, or any port, in place of the page's."""
+    return shlex.split(place.words_of(command)[-1].replace(ADDRESS, address).replace("8786", "0"))
 
 
 def try_cluster(place: Place, python: str, wanted: Wanted) -> None:
@@ -174,15 +159,15 @@ def try_cluster(place: Place, python: str, wanted: Wanted) -> None:
     shares = sorted(str(file) for file in place.folder.glob("share-*"))
     about = place.folder / "scheduler.json"
     quiet = {"stdout": subprocess.DEVNULL, "stderr": subprocess.DEVNULL, "cwd": place.folder}
-    begin = [python, "-m", "distributed.cli.dask_scheduler", "--host", "127.0.0.1", "--port", "0", "--no-dashboard"]
-    started = [subprocess.Popen([*begin, "--scheduler-file", str(about)], **quiet)]
-    work = [python, "-m", "distributed.cli.dask_worker", "--scheduler-file", str(about), "--nthreads", "1", "--no-nanny",
-            "--no-dashboard"]
+    begin = [*on_this_machine(place, SCHEDULER), "--host", "127.0.0.1", "--no-dashboard", "--scheduler-file", str(about)]
+    started = [subprocess.Popen([python, "-m", *begin], **quiet)]
     try:
-        started += [subprocess.Popen(work, **quiet) for _ in range(3)]
         address = address_in(about)
-        main = subprocess.Popen([python, str(TOOLS / "on_dask.py"), "--bin", place.tried.program, address, "received",
-                                 *shares], stdout=subprocess.PIPE, stderr=subprocess.DEVNULL, text=True)
+        work = [*on_this_machine(place, WORKER, address), "--no-nanny", "--no-dashboard"]
+        started += [subprocess.Popen([python, "-m", *work], **quiet) for _ in range(3)]
+        script, *words, _ = on_this_machine(place, ANSWERED, address)
+        main = subprocess.Popen([python, script, "--bin", place.tried.program, *words, *shares], cwd=place.folder,
+                                stdout=subprocess.PIPE, stderr=subprocess.DEVNULL, text=True)
         started.append(main)
         done = kill_in_the_middle(started[1], place.folder)
         place.tried.same("a worker was killed in the middle", 0 < done < len(shares), True)
@@ -216,13 +201,9 @@ def kill_in_the_middle(worker: subprocess.Popen, folder: Path) -> int:
 
 
 def try_all(tried: Tried) -> None:
-    folder = tried.folder / "scale"
-    folder.mkdir()
-    place = Place(tried, folder)
-    (folder / "csn_cli").symlink_to(tried.program)
-    (folder / "tools").symlink_to(TOOLS)
+    place = Place(tried, tried.folder / "scale")
     lines = made_lines(50_000_000 if tried.is_whole else 9_000_000)
-    (folder / "lines").write_text("".join(line + "\n" for line in lines))
+    (place.folder / "lines").write_text("".join(line + "\n" for line in lines))
     wanted = wanted_of(tried, "replay", lines)
     tried.same("answers in all", wanted.lines, len(lines))
     if shutil.which("parallel"):

@@ -9,9 +9,14 @@ from typing import Iterator
 
 from made import HEADS, LINKS, frames, ip4, pcap, tap, time_of
 from made_messages import Block, Messages, messages
+from places import Place
 from shown_blocks import Item, Shown, items_of_wireshark, labels_at_leaves, shown_by_plugin, told_by
 from tried import EXAMPLES, ROOT, TOOLS, Tried
-from tsharks import Tshark, tsharks_of
+from tsharks import PAGE_IN_C, Tshark, as_user, environment_of, tsharks_of
+
+SHOWN_IN_LUA = "tshark -X lua_script:tools/wireshark/nambroit.lua -r capture.pcapng -O nambroit -Y 'frame.number == 2'"
+ALWAYS_IN_LUA = "echo \"dofile('$PWD/tools/wireshark/nambroit.lua')\" > ~/.local/lib/wireshark/plugins/nambroit.lua"
+FILTERED_IN_C = "tshark -r capture.pcapng -Y 'nambroit.rac == 1'"
 
 
 def capture_of(tried: Tried, name: str, octets: list[bytes], link: str = "Ethernet") -> Path:
@@ -99,9 +104,33 @@ def try_recipes(tried: Tried, tshark: Tshark, capture: Path) -> None:
     asked = [shlex.split(row.split("`")[1]) for row in rows]
     failed = [words for words in asked if tshark.run(capture, *words).startswith("status")]
     tried.same("words of the recipes", (len(asked), failed), (5, []))
-    example = (TOOLS / "README.md").read_text().split("## In Wireshark\n\n")[1].split("\n        ..\n")[0]
-    shown = "".join(f"    {line}\n" for line in tshark.run(capture, "-O", "nambroit", "-Y", "frame.number == 2").splitlines())
-    tried.same("the example of the page", example.partition("\n")[2] in shown, True)
+
+
+def place_of(tried: Tried, tshark: Tshark, page: Path, home: Path, capture: Path) -> Place:
+    """Where the commands of a page run, over a capture."""
+    place = Place(tried, tshark.folder / "page", page, environment_of(home, tshark.companion, {}))
+    (place.folder / "capture.pcapng").symlink_to(capture)
+    return place
+
+
+def try_page_in_lua(tried: Tried, tshark: Tshark, capture: Path) -> None:
+    """The commands of the page: what one shows, and that by another the plugin is always there."""
+    place = place_of(tried, tshark, TOOLS / "README.md", tshark.folder / "page", capture)
+    example = place.page.read_text().split(f"    $ {SHOWN_IN_LUA}\n")[1].split("        ..\n")[0]
+    shown = "".join(f"    {line}\n" for line in place.told(SHOWN_IN_LUA).splitlines())
+    tried.same("the example of the page", (example.count("\n"), example in shown), (8, True))
+    if as_user() is None:
+        return tried.skip("a plugin that is always loaded", "root cannot be another user here")
+    (place.folder / ".local/lib/wireshark/plugins").mkdir(parents=True)
+    place.run(ALWAYS_IN_LUA)
+    always = Tshark("always", place.folder, [*as_user(), "tshark"], tshark.companion)
+    tried.same("a plugin that is always loaded", column(told_of(always, capture, "rac")), {4: "1"})
+
+
+def try_page_in_c(tried: Tried, tshark: Tshark, capture: Path) -> None:
+    place = place_of(tried, tshark, PAGE_IN_C, tshark.folder, capture)
+    place.before = tuple(as_user() or ())
+    tried.same("the frames of the page's filter", [line.split()[0] for line in place.told(FILTERED_IN_C).splitlines()], ["4"])
 
 
 def try_segments(tried: Tried, tshark: Tshark, capture: Path) -> None:
@@ -218,7 +247,10 @@ def try_plugin(tried: Tried, tshark: Tshark) -> None:
     for one in (try_labels, try_recipes, try_segments, try_preferences, try_faults):
         one(tried, tshark, capture)
     if tshark.companion:
+        try_page_in_lua(tried, tshark, capture)
         try_programs(tried, tshark, capture)
+    else:
+        try_page_in_c(tried, tshark, capture)
     try_other_blocks(tried, tshark)
     try_cut_frames(tried, tshark)
     if tried.is_whole:
