@@ -2,7 +2,6 @@
  * is kept with its frame, and only a frame that is new goes to what waits. */
 #include "blocks.h"
 #include "fields.h"
-#include "shown.h"
 #include <epan/proto_data.h>
 #include <epan/to_str.h>
 #include <string.h>
@@ -46,15 +45,15 @@ void register_segments(void)
 }
 
 /* Takes a block with a segment, the first time that it comes. */
-static segment *take(packet_info *pinfo, guint32 number, const char *downlink, segment_kind kind, tvbuff_t *body)
+static segment *take(packet_info *pinfo, guint32 number, const char *downlink, segment_kind kind, span body)
 {
     segment *it = p_get_proto_data(wmem_file_scope(), pinfo, nambroit_protocol, number);
     if (it != NULL || kind == NOT_FINAL)
         return it;
     it = wmem_new0(wmem_file_scope(), segment);
     it->frame = pinfo->num;
-    it->length = (int)tvb_reported_length(body);
-    tvb_memcpy(body, it->body, 0, (size_t)it->length);
+    it->length = body.length;
+    memcpy(it->body, octets_of(body), (size_t)body.length);
     p_add_proto_data(wmem_file_scope(), pinfo, nambroit_protocol, number, it);
     segment *first = wmem_map_remove(waiting, downlink);
     if (kind == FIRST) {
@@ -68,7 +67,7 @@ static segment *take(packet_info *pinfo, guint32 number, const char *downlink, s
 }
 
 /* The whole message, whose second segment this is. */
-static tvbuff_t *joined(const segment *it, tvbuff_t *around, packet_info *pinfo)
+static span joined(const segment *it, tvbuff_t *around, packet_info *pinfo)
 {
     int length = it->first->length + it->length;
     guint8 *octets = wmem_alloc(pinfo->pool, (size_t)length);
@@ -76,101 +75,98 @@ static tvbuff_t *joined(const segment *it, tvbuff_t *around, packet_info *pinfo)
     memcpy(octets + it->first->length, it->body, (size_t)it->length);
     tvbuff_t *whole = tvb_new_child_real_data(around, octets, (guint)length, length);
     add_new_data_source(pinfo, whole, "Message of two segments");
-    return whole;
+    return (span){whole, 0, length};
 }
 
 /* Shows what `segments` of csn_cli answers to a block that it does not join. */
-static proto_item *show_answer(const char *answer, tvbuff_t *body, proto_tree *tree)
+static proto_item *show_answer(const char *answer, span body, proto_tree *tree)
 {
-    int length = (int)tvb_reported_length(body);
-    proto_item *item = proto_tree_add_protocol_format(tree, nambroit_protocol, body, 0, length, "Nambroit, a segment, %s",
-                                                      answer);
+    proto_item *item = proto_tree_add_protocol_format(tree, nambroit_protocol, body.tvb, body.start, body.length,
+                                                      "Nambroit, a segment, %s", answer);
     proto_tree *under = proto_item_add_subtree(item, nambroit_tree);
-    proto_item_set_generated(proto_tree_add_string(under, answer_field, body, 0, length, answer));
+    proto_item_set_generated(proto_tree_add_string(under, answer_field, body.tvb, body.start, body.length, answer));
     return item;
 }
 
-static void show_segment(rule *by, tvbuff_t *block, packet_info *pinfo, guint32 number, const char *downlink,
-                         proto_tree *tree)
+static void show_segment(rule *by, span block, packet_info *pinfo, guint32 number, const char *downlink, proto_tree *tree)
 {
-    guint8 control = tvb_get_guint8(block, 1);
+    guint8 control = octets_of(block)[1];
     guint32 transaction = control >> 2 & 31;
     gboolean is_second = control >> 7 & 1, is_final = control >> 1 & 1;
     segment_kind kind = is_second ? is_final ? SECOND : NOT_FINAL : is_final ? ONLY : FIRST;
-    tvbuff_t *body = tvb_new_subset_remaining(block, 2 + (control & 1));
+    span body = span_from(block, 2 + (control & 1));
     const char *key = wmem_strdup_printf(pinfo->pool, "%s/%u", downlink, transaction);
     const segment *it = take(pinfo, number, key, kind, body);
     proto_item *item;
     if (kind == ONLY)
         item = show_block(by, body, pinfo, tree);
     else if (kind == SECOND && it->first != NULL)
-        item = show_block(by, joined(it, block, pinfo), pinfo, tree);
+        item = show_block(by, joined(it, block.tvb, pinfo), pinfo, tree);
     else if (kind == FIRST)
         item = show_answer(wmem_strdup_printf(pinfo->pool, "wait %u", transaction), body, tree);
     else
         item = show_answer(kind == SECOND ? "bad 9" : "bad 8", body, tree);
     if (it != NULL && it->other_frame != 0) {
         proto_tree *under = proto_item_get_subtree(item);
-        proto_item_set_generated(proto_tree_add_uint(under, segment_field, block, 1, 1, it->other_frame));
+        proto_item_set_generated(proto_tree_add_uint(under, segment_field, block.tvb, block.start + 1, 1, it->other_frame));
     }
 }
 
-/* Shows a block of packet data. */
-static void show_packet_data(const block_rules *rules, tvbuff_t *tap, tvbuff_t *block, packet_info *pinfo, guint32 number,
+/* Shows a block of packet data, by its GSMTAP header. */
+static void show_packet_data(const block_rules *rules, const guint8 *head, span block, packet_info *pinfo, guint32 number,
                              proto_tree *tree)
 {
-    guint16 arfcn = tvb_get_ntohs(tap, 4);
+    guint32 arfcn = (guint32)head[4] << 8 | head[5];
     gboolean is_uplink = arfcn >> 14 & 1;
-    guint8 payload = tvb_get_guint8(block, 0) >> 6;
+    guint8 payload = octets_of(block)[0] >> 6;
     rule *by = is_uplink ? rules->uplink : rules->downlink;
-    if (tvb_reported_length(block) != BLOCK_OCTETS || by == NULL)
+    if (block.length != BLOCK_OCTETS || by == NULL)
         return;
     if (payload == CONTROL) {
-        show_block(by, tvb_new_subset_remaining(block, 1), pinfo, tree);
+        show_block(by, span_from(block, 1), pinfo, tree);
     } else if (payload == SEGMENTED && !is_uplink) {
         const char *from = address_to_str(pinfo->pool, &pinfo->src);
-        guint8 slot = tvb_get_guint8(tap, 3) & 7;
-        const char *downlink = wmem_strdup_printf(pinfo->pool, "%s %u/%u", from, arfcn, slot);
+        const char *downlink = wmem_strdup_printf(pinfo->pool, "%s %u/%u", from, arfcn, head[3] & 7u);
         show_segment(by, block, pinfo, number, downlink, tree);
     }
 }
 
 /* Shows the rest octets of a message. Its first octet tells how many octets of it come before them. */
-static void show_rest_octets(const block_rules *rules, tvbuff_t *octets, packet_info *pinfo, proto_tree *tree)
+static void show_rest_octets(const block_rules *rules, span all, packet_info *pinfo, proto_tree *tree)
 {
-    if (tvb_reported_length(octets) <= 3 || tvb_get_guint8(octets, 1) != RADIO_RESOURCE)
+    const guint8 *octets = octets_of(all);
+    if (all.length <= 3 || octets[1] != RADIO_RESOURCE)
         return;
     for (int at = 0; at < MESSAGE_COUNT; at++) {
-        guint32 before = MAX(messages[at].before, 1 + (tvb_get_guint8(octets, 0) >> 2));
-        if (messages[at].type != tvb_get_guint8(octets, 2))
+        int before = MAX(messages[at].before, 1 + (octets[0] >> 2));
+        if (messages[at].type != octets[2])
             continue;
-        if (rules->rest_octets[at] != NULL && before < tvb_reported_length(octets))
-            show_block(rules->rest_octets[at], tvb_new_subset_remaining(octets, (gint)before), pinfo, tree);
+        if (rules->rest_octets[at] != NULL && before < all.length)
+            show_block(rules->rest_octets[at], span_from(all, before), pinfo, tree);
         return;
     }
 }
 
-void show_datagram(const block_rules *rules, tvbuff_t *datagram, packet_info *pinfo, guint32 number, proto_tree *tree)
+void show_datagram(const block_rules *rules, span datagram, packet_info *pinfo, guint32 number, proto_tree *tree)
 {
-    guint32 length = tvb_captured_length(datagram);
-    if (length < GSMTAP_OCTETS || tvb_get_guint8(datagram, 0) != GSMTAP_VERSION || tvb_get_guint8(datagram, 2) != UM)
+    const guint8 *head = octets_of(datagram);
+    if (datagram.length < GSMTAP_OCTETS || head[0] != GSMTAP_VERSION || head[2] != UM)
         return;
-    guint32 head = 4u * tvb_get_guint8(datagram, 1);
-    if (head < GSMTAP_OCTETS || head >= length)
+    int octets = 4 * head[1];
+    if (octets < GSMTAP_OCTETS || octets >= datagram.length)
         return;
-    tvbuff_t *octets = tvb_new_subset_remaining(datagram, (gint)head);
-    gboolean is_uplink = tvb_get_guint8(datagram, 4) >> 6 & 1;
-    switch (tvb_get_guint8(datagram, 12)) {
+    gboolean is_uplink = head[4] >> 6 & 1;
+    switch (head[12]) {
     case PACCH:
     case PDCH:
-        show_packet_data(rules, datagram, octets, pinfo, number, tree);
+        show_packet_data(rules, head, span_from(datagram, octets), pinfo, number, tree);
         break;
     case BCCH:
     case CCCH:
     case AGCH:
     case PCH:
         if (!is_uplink)
-            show_rest_octets(rules, octets, pinfo, tree);
+            show_rest_octets(rules, span_from(datagram, octets), pinfo, tree);
         break;
     default:
         break;

@@ -2,6 +2,7 @@
 #ifndef NAMBROIT_BLOCKS_H
 #define NAMBROIT_BLOCKS_H
 #include "rules.h"
+#include "shown.h"
 #include <epan/packet.h>
 
 /* The messages that end in rest octets. */
@@ -21,7 +22,7 @@ typedef struct {
 } block_rules;
 
 /* Shows the block in the payload of a UDP datagram, where it has one. `number` tells apart those of one frame. */
-void show_datagram(const block_rules *rules, tvbuff_t *datagram, packet_info *pinfo, guint32 number, proto_tree *tree);
+void show_datagram(const block_rules *rules, span datagram, packet_info *pinfo, guint32 number, proto_tree *tree);
 
 /* Sees to it that segments are forgotten with the capture that they are of. */
 void register_segments(void);

@@ -101,13 +101,18 @@ static void make_group(const rule *it, guint32 number)
 {
     const char *label = it->nodes[number].label;
     label_fields *fields = fields_of(label);
-    it->nodes[number].fields = fields;
     if (fields->number != -1)
         return;
     char *name = name_of(label);
     gboolean is_number = GPOINTER_TO_UINT(g_hash_table_lookup(types_by_name, name)) == FT_UINT64 + 1;
     make(&fields->group, label, is_number ? g_strconcat(name, ".parts", NULL) : g_strdup(name), FT_NONE);
     g_free(name);
+}
+
+/* Tells a label its fields, once all are made. */
+static void give_fields(const rule *it, guint32 number)
+{
+    it->nodes[number].fields = *fields_of(it->nodes[number].label);
 }
 
 static void for_each_label(GPtrArray *rules, void (*act)(const rule *, guint32))
@@ -128,6 +133,7 @@ void make_label_fields(GPtrArray *rules)
     made = g_ptr_array_new();
     for_each_label(rules, make_number);
     for_each_label(rules, make_group);
+    for_each_label(rules, give_fields);
 }
 
 /* Wireshark frees what is told of a field when nothing shows it any more. */

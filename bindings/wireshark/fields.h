@@ -5,13 +5,6 @@
 #include <epan/packet.h>
 #include <epan/expert.h>
 
-/* The fields of a label, by whichever rules; -1 where there is none. */
-struct label_fields {
-    int number; /* of a leaf, or the alternative of a choice */
-    int bits;   /* of a leaf that may have more bits than a number */
-    int group;  /* of any other part */
-};
-
 /* Fields of each block. */
 extern int nambroit_protocol, answer_field, rule_field, refused_field, segment_field;
 /* Fields of leaves that are not right at a label, by their kind. Their value is their bits. */

@@ -140,12 +140,11 @@ static GPtrArray *items_of(proto_tree *tree, int field, gboolean *is_ours)
     return *is_ours ? proto_find_finfo(tree, field) : items;
 }
 
-/* The octets of an item, without some at its beginning; NULL where there are none more. */
-static tvbuff_t *octets_of(const field_info *item, int skipped)
+/* The octets of an item, without some at its beginning; of no length where there are none more. */
+static span span_of(const field_info *item, int skipped)
 {
-    if (item->ds_tvb == NULL || skipped >= item->length || item->start < 0)
-        return NULL;
-    return tvb_new_subset_length(item->ds_tvb, item->start + skipped, item->length - skipped);
+    gboolean has_more = item->ds_tvb != NULL && item->start >= 0 && skipped < item->length;
+    return (span){item->ds_tvb, item->start + skipped, has_more ? item->length - skipped : 0};
 }
 
 static gboolean begins_at(const GPtrArray *items, const field_info *other)
@@ -166,8 +165,8 @@ static void show_datagrams(packet_info *pinfo, proto_tree *tree)
     GPtrArray *payloads = headers != NULL ? items_of(tree, payload_field, &payloads_are_ours) : NULL;
     for (guint at = 0; payloads != NULL && at < payloads->len; at++) {
         const field_info *payload = g_ptr_array_index(payloads, at);
-        tvbuff_t *datagram = begins_at(headers, payload) ? octets_of(payload, 0) : NULL;
-        if (datagram != NULL)
+        span datagram = span_of(payload, 0);
+        if (datagram.length > 0 && begins_at(headers, payload))
             show_datagram(&rules, datagram, pinfo, at, tree);
     }
     if (headers_are_ours)
@@ -181,8 +180,8 @@ static void show_others(packet_info *pinfo, proto_tree *tree)
     gboolean is_ours = FALSE;
     GPtrArray *items = items_of(tree, other_field, &is_ours);
     for (guint at = 0; items != NULL && at < items->len; at++) {
-        tvbuff_t *block = octets_of(g_ptr_array_index(items, at), atoi(settings.other_skip));
-        if (block != NULL)
+        span block = span_of(g_ptr_array_index(items, at), atoi(settings.other_skip));
+        if (block.length > 0)
             show_block(other_rule, block, pinfo, tree);
     }
     if (is_ours)

@@ -35,6 +35,7 @@ static void learn_node(rule *it, guint32 number)
     csn_shape shape = {0, CSN_ANY_BITS};
     csn_node(&it->handle, number, &shape);
     node->label = label_of(&it->handle, number);
+    node->fields = (label_fields){-1, -1, -1};
     node->is_leaf = shape.kind >= CSN_LITERAL && shape.kind <= CSN_PADDING;
     node->is_choice = shape.kind == CSN_CHOICE;
     node->bits = shape.bits;

@@ -4,15 +4,20 @@
 #include "csn.h"
 #include <glib.h>
 
-typedef struct label_fields label_fields;
+/* The fields of a label, by whichever rules; -1 where there is none. */
+typedef struct {
+    int number; /* of a leaf, or the alternative of a choice */
+    int bits;   /* of a leaf that may have more bits than a number */
+    int group;  /* of any other part */
+} label_fields;
 
 /* A node of a rule, as far as it is shown. */
 typedef struct {
-    char *label;                /* or NULL */
+    char *label;         /* or NULL */
+    label_fields fields; /* those of its label, once they are made */
     gboolean is_leaf;
     gboolean is_choice;
-    guint32 bits;               /* as in csn_shape */
-    const label_fields *fields; /* those of its label, once they are made */
+    guint32 bits;        /* as in csn_shape */
 } rule_node;
 
 typedef struct {

@@ -17,24 +17,28 @@ typedef struct {
     const rule_node *node; /* of a label */
     guint32 number;        /* of a turn or an alternative */
     gboolean is_told;      /* of an alternative, that a leaf was shown behind it */
-    proto_item *item;      /* of a label or a turn, once a leaf is in it */
-    proto_tree *tree;      /* its parts */
+    gboolean is_made;      /* of a label or a turn, that a leaf is in it */
+    proto_item *item;      /* its item then, where it has one */
+    proto_tree *tree;      /* the tree of its parts then */
     int first;             /* its first octet */
 } step;
 
 /* A block that is shown. */
 typedef struct {
     const rule *by;
-    tvbuff_t *tvb;
+    span block;
     const guint8 *octets;
     proto_tree *tree;
     wmem_allocator_t *pool;
+    gboolean is_drawn;      /* the tree is looked at; else only what is asked for gets an item, and none a text */
     step path[MOST_PATH];
     int length;             /* of the path */
     int begun[MOST_PATH];   /* how long it was before each open node */
     int depth;              /* of open nodes */
     int till;               /* how many octets there are up to the end of the last leaf */
 } shown;
+
+static const label_fields no_fields = {-1, -1, -1};
 
 /* The events of the block that was read last. */
 static csn_event *events;
@@ -47,7 +51,28 @@ void forget_events(void)
     room = 0;
 }
 
+/* ---- octets */
+
+span span_from(span all, int first)
+{
+    return (span){all.tvb, all.start + first, all.length - first};
+}
+
+const guint8 *octets_of(span all)
+{
+    return tvb_get_ptr(all.tvb, all.start, all.length);
+}
+
 /* ---- texts */
+
+/* Begins the text of an item. Wireshark's own call would go through it twice. */
+static void begin_text(text *it, proto_item *item)
+{
+    field_info *info = PITEM_FINFO(item);
+    if (info->rep == NULL)
+        info->rep = wmem_new(PNODE_POOL(item), item_label_t);
+    text_begin(it, info->rep->representation, sizeof info->rep->representation);
+}
 
 /* The path, as csn_explain tells it. */
 static void add_path(text *to, const shown *it)
@@ -102,10 +127,7 @@ static void add_value(text *to, const shown *it, const csn_event *leaf, const ch
 static const char *all_bits(const shown *it, const csn_event *leaf)
 {
     char *bits = wmem_alloc(it->pool, leaf->bits + 1);
-    for (guint32 at = 0; at < leaf->bits; at++) {
-        guint32 place = leaf->place + at;
-        bits[at] = it->octets[place / 8] >> (7 - place % 8) & 1 ? '1' : '0';
-    }
+    write_bits(bits, it->octets, leaf->place, leaf->bits);
     bits[leaf->bits] = '\0';
     return bits;
 }
@@ -115,7 +137,7 @@ static const char *all_bits(const shown *it, const csn_event *leaf)
 /* The octet in which a bit is; the last one of the block for what is behind it. */
 static int octet_of(const shown *it, guint32 place)
 {
-    return MIN((int)(place / 8), (int)tvb_reported_length(it->tvb) - 1);
+    return MIN((int)(place / 8), it->block.length - 1);
 }
 
 /* How many octets there are from one on to the end of the last leaf; one at least. */
@@ -124,35 +146,45 @@ static int octets_from(const shown *it, int first)
     return MAX(it->till - first, 1);
 }
 
-/* Makes the item of a label or a turn, with the alternative that comes right behind it in the path. */
+/* The text of a label or a turn, with the alternative that comes right behind it in the path. */
+static void add_title(text *to, const step *one, step *chosen)
+{
+    if (one->kind == LABEL) {
+        text_add(to, one->node->label);
+    } else {
+        text_add_letter(to, '[');
+        text_add_number(to, one->number);
+        text_add_letter(to, ']');
+    }
+    if (chosen != NULL) {
+        text_add(to, ": alternative ");
+        text_add_number(to, chosen->number);
+        chosen->is_told = TRUE;
+    }
+}
+
+/* Makes the item of a label or a turn, where one is wanted. */
 static proto_item *make_item(shown *it, int at, proto_tree *around, int first)
 {
     const step *one = &it->path[at];
     step *chosen = at + 1 < it->length && it->path[at + 1].kind == ALTERNATIVE ? &it->path[at + 1] : NULL;
-    const label_fields *fields = one->kind == LABEL ? one->node->fields : NULL;
-    int length = octets_from(it, first);
+    const label_fields *fields = one->kind == LABEL ? &one->node->fields : &no_fields;
+    gboolean has_choice = chosen != NULL && fields->number != -1;
+    int field = has_choice ? fields->number : fields->group, length = octets_from(it, first);
     proto_item *item = NULL;
-    text title;
-    text_begin(&title);
-    if (one->kind == LABEL) {
-        text_add(&title, one->node->label);
-    } else {
-        text_add(&title, "[");
-        text_add_number(&title, one->number);
-        text_add(&title, "]");
-    }
-    if (chosen != NULL) {
-        text_add(&title, ": alternative ");
-        text_add_number(&title, chosen->number);
-        chosen->is_told = TRUE;
-    }
-    if (chosen != NULL && fields != NULL && fields->number != -1)
-        item = proto_tree_add_uint64(around, fields->number, it->tvb, first, length, chosen->number);
-    else if (fields != NULL && fields->group != -1)
-        item = proto_tree_add_item(around, fields->group, it->tvb, first, length, ENC_NA);
+    if (!it->is_drawn && (field == -1 || !proto_field_is_referenced(around, field)))
+        return NULL;
+    if (has_choice)
+        item = proto_tree_add_uint64(around, field, it->block.tvb, it->block.start + first, length, chosen->number);
+    else if (field != -1)
+        item = proto_tree_add_item(around, field, it->block.tvb, it->block.start + first, length, ENC_NA);
     else
-        proto_tree_add_subtree(around, it->tvb, first, length, nambroit_tree, &item, "");
-    proto_item_set_text(item, "%s", title.letters);
+        proto_tree_add_subtree(around, it->block.tvb, it->block.start + first, length, nambroit_tree, &item, "");
+    if (it->is_drawn) {
+        text title;
+        begin_text(&title, item);
+        add_title(&title, one, chosen);
+    }
     return item;
 }
 
@@ -164,9 +196,10 @@ static proto_tree *part_of(shown *it, int length, int first)
         step *one = &it->path[at];
         if (one->kind == ALTERNATIVE)
             continue;
-        if (one->item == NULL) {
+        if (!one->is_made) {
+            one->is_made = TRUE;
             one->item = make_item(it, at, around, first);
-            one->tree = proto_item_add_subtree(one->item, nambroit_tree);
+            one->tree = one->item != NULL ? proto_item_add_subtree(one->item, nambroit_tree) : around;
             one->first = first;
         }
         around = one->tree;
@@ -174,17 +207,17 @@ static proto_tree *part_of(shown *it, int length, int first)
     return around;
 }
 
-/* Adds the item of a leaf, whose value is its number, or else its bits. */
+/* Adds the item of a leaf, where one is wanted: its value is its number, or else its bits. */
 static proto_item *add_leaf(const shown *it, const csn_event *leaf, const label_fields *fields, proto_tree *around)
 {
-    int field = kind_fields[leaf->kind], first = octet_of(it, leaf->place), length = octets_from(it, first);
-    if (fields != NULL && has_number(leaf) && fields->number != -1)
-        return proto_tree_add_uint64(around, fields->number, it->tvb, first, length, leaf->value);
-    if (fields != NULL && !has_number(leaf) && fields->bits != -1)
-        field = fields->bits;
-    if (!proto_field_is_referenced(around, field))
+    gboolean is_number = has_number(leaf) && fields->number != -1, is_bits = !has_number(leaf) && fields->bits != -1;
+    int field = is_number ? fields->number : is_bits ? fields->bits : kind_fields[leaf->kind];
+    int first = octet_of(it, leaf->place), length = octets_from(it, first);
+    if (!it->is_drawn && !proto_field_is_referenced(around, field))
         return NULL;
-    return proto_tree_add_string(around, field, it->tvb, first, length, all_bits(it, leaf));
+    if (is_number)
+        return proto_tree_add_uint64(around, field, it->block.tvb, it->block.start + first, length, leaf->value);
+    return proto_tree_add_string(around, field, it->block.tvb, it->block.start + first, length, all_bits(it, leaf));
 }
 
 /* Shows a leaf, to whose part the path leads. */
@@ -194,14 +227,13 @@ static void show_leaf(shown *it, const csn_event *leaf)
     const char *label = before != NULL ? before->label : NULL;
     it->till = (int)((leaf->place + leaf->bits + 7) / 8);
     proto_tree *around = part_of(it, label != NULL ? it->length - 1 : it->length, octet_of(it, leaf->place));
-    proto_item *item = add_leaf(it, leaf, label != NULL ? before->fields : NULL, around);
-    if (item != NULL && PTREE_DATA(it->tree)->visible) {
+    proto_item *item = add_leaf(it, leaf, before != NULL ? &before->fields : &no_fields, around);
+    if (it->is_drawn) {
         text line;
-        text_begin(&line);
+        begin_text(&line, item);
         text_add_mask(&line, it->octets, leaf->place, leaf->bits);
         add_value(&line, it, leaf, label);
         add_alternatives(&line, it);
-        proto_item_set_text(item, "%s", line.letters);
     }
     for (int at = 0; at < it->length; at++)
         it->path[at].is_told = TRUE;
@@ -256,41 +288,55 @@ static void show_event(shown *it, const csn_event *event)
 /* Shows where the block is refused. */
 static void show_refusal(shown *it, packet_info *pinfo, guint32 place, guint32 bits)
 {
-    text line;
-    text_begin(&line);
-    if (place < bits)
-        text_add_mask(&line, it->octets, place, 1);
-    text_add(&line, "Refused at bit ");
-    text_add_number(&line, place);
-    text_add(&line, place < bits ? "" : ", where the block ends");
-    text_add(&line, it->length > 0 ? ", at " : "");
-    add_path(&line, it);
-    proto_item *item = proto_tree_add_uint(it->tree, refused_field, it->tvb, octet_of(it, place), 1, place);
-    proto_item_set_text(item, "%s", line.letters);
+    int at = it->block.start + octet_of(it, place);
+    proto_item *item = proto_tree_add_uint(it->tree, refused_field, it->block.tvb, at, 1, place);
+    if (it->is_drawn) {
+        text line;
+        begin_text(&line, item);
+        if (place < bits)
+            text_add_mask(&line, it->octets, place, 1);
+        text_add(&line, "Refused at bit ");
+        text_add_number(&line, place);
+        text_add(&line, place < bits ? "" : ", where the block ends");
+        text_add(&line, it->length > 0 ? ", at " : "");
+        add_path(&line, it);
+    }
     expert_add_info_format(pinfo, item, &refusal_expert, "Refused at bit %u", place);
 }
 
 /* Nothing of a block. Only as much of the path is ever looked at as it is long. */
-static void begin(shown *it, const rule *by, tvbuff_t *tvb, const guint8 *octets, wmem_allocator_t *pool,
-                  proto_tree *tree)
+static void begin(shown *it, const rule *by, span block, wmem_allocator_t *pool, proto_tree *tree)
 {
     it->by = by;
-    it->tvb = tvb;
-    it->octets = octets;
+    it->block = block;
+    it->octets = octets_of(block);
     it->tree = tree;
     it->pool = pool;
+    it->is_drawn = PTREE_DATA(tree)->visible;
     it->length = it->depth = it->till = 0;
 }
 
 /* The status of a block, all of whose events are kept then. */
-static guint32 read_block(rule *by, const guint8 *octets, guint32 length, size_t *count, size_t *place)
+static guint32 tell_block(rule *by, span block, size_t *count, size_t *place)
 {
+    const guint8 *octets = octets_of(block);
+    guint32 length = (guint32)block.length;
     guint32 status = csn_tell(&by->handle, octets, length, 8 * length, events, room, count, place);
     if (*count <= room)
         return status;
     room = MAX(*count, FIRST_ROOM);
     events = g_renew(csn_event, events, room);
     return csn_tell(&by->handle, octets, length, 8 * length, events, room, count, place);
+}
+
+/* The status of a block, with its events where the tree is looked at, or any field of the plugin is asked for. */
+static guint32 read_block(rule *by, span block, proto_tree *tree, size_t *count, size_t *place)
+{
+    if (by->fault != NULL)
+        return CSN_NO_RULE;
+    if (proto_field_is_referenced(tree, nambroit_protocol))
+        return tell_block(by, block, count, place);
+    return csn_judge(&by->handle, octets_of(block), (guint32)block.length, 8 * (guint32)block.length, place);
 }
 
 static const char *answer_to(const rule *by, wmem_allocator_t *pool, guint32 status, guint32 place, guint32 bits)
@@ -302,23 +348,43 @@ static const char *answer_to(const rule *by, wmem_allocator_t *pool, guint32 sta
     return by->fault != NULL ? by->fault : status == CSN_NO_MEMORY ? "no memory" : "no block";
 }
 
-proto_item *show_block(rule *by, tvbuff_t *tvb, packet_info *pinfo, proto_tree *tree)
+/* The item of a block. */
+static proto_item *add_block(const rule *by, span block, const char *answer, proto_tree *tree)
 {
-    guint32 length = tvb_reported_length(tvb);
+    proto_item *item = proto_tree_add_item(tree, nambroit_protocol, block.tvb, block.start, block.length, ENC_NA);
+    if (PTREE_DATA(tree)->visible) {
+        text line;
+        begin_text(&line, item);
+        text_add(&line, "Nambroit, ");
+        text_add(&line, by->name);
+        text_add(&line, ", ");
+        text_add(&line, answer);
+    }
+    return item;
+}
+
+/* Adds what is told of a block beside its parts. */
+static void add_about(const shown *it, int field, const char *told)
+{
+    const span *all = &it->block;
+    proto_item_set_generated(proto_tree_add_string(it->tree, field, all->tvb, all->start, all->length, told));
+}
+
+proto_item *show_block(rule *by, span block, packet_info *pinfo, proto_tree *tree)
+{
+    guint32 bits = 8 * (guint32)block.length;
     size_t count = 0, place = 0;
-    const guint8 *octets = tvb_get_ptr(tvb, 0, (gint)length);
-    guint32 status = by->fault != NULL ? CSN_NO_RULE : read_block(by, octets, length, &count, &place);
-    const char *answer = answer_to(by, pinfo->pool, status, (guint32)place, 8 * length);
-    proto_item *item = proto_tree_add_protocol_format(tree, nambroit_protocol, tvb, 0, (gint)length, "Nambroit, %s, %s",
-                                                      by->name, answer);
+    guint32 status = read_block(by, block, tree, &count, &place);
+    const char *answer = answer_to(by, pinfo->pool, status, (guint32)place, bits);
+    proto_item *item = add_block(by, block, answer, tree);
     shown it;
-    begin(&it, by, tvb, octets, pinfo->pool, proto_item_add_subtree(item, nambroit_tree));
-    proto_item_set_generated(proto_tree_add_string(it.tree, rule_field, tvb, 0, (gint)length, by->name));
-    proto_item_set_generated(proto_tree_add_string(it.tree, answer_field, tvb, 0, (gint)length, answer));
+    begin(&it, by, block, pinfo->pool, proto_item_add_subtree(item, nambroit_tree));
+    add_about(&it, rule_field, by->name);
+    add_about(&it, answer_field, answer);
     for (size_t at = 0; at < count; at++)
         show_event(&it, &events[at]);
     if (status == CSN_REFUSED)
-        show_refusal(&it, pinfo, (guint32)place, 8 * length);
+        show_refusal(&it, pinfo, (guint32)place, bits);
     else if (status != CSN_OK)
         expert_add_info_format(pinfo, item, &fault_expert, "Not read: %s", answer);
     go_back(&it, 0);

@@ -1,37 +1,14 @@
 /* text.c - see text.h. Texts are made for each part of each block, and printf took most of the time of a block. */
 #include "text.h"
-#include <string.h>
 
-enum { MOST_DRAWN = 64 };
+enum { MOST_DRAWN = 64, NIBBLE = 4, OCTET = 8 };
 
-void text_begin(text *it)
-{
-    it->length = 0;
-    it->letters[0] = '\0';
-}
-
-static void add(text *it, const char *piece, size_t length)
-{
-    size_t room = TEXT_ROOM - 1 - it->length;
-    if (length > room)
-        length = room;
-    memcpy(it->letters + it->length, piece, length);
-    it->length += length;
-    it->letters[it->length] = '\0';
-}
-
-void text_add(text *it, const char *piece)
-{
-    add(it, piece, strlen(piece));
-}
-
-void text_add_letter(text *it, char letter)
-{
-    add(it, &letter, 1);
-}
+/* The bits of each number of four bits. */
+static const char nibbles[16][NIBBLE + 1] = {"0000", "0001", "0010", "0011", "0100", "0101", "0110", "0111",
+                                             "1000", "1001", "1010", "1011", "1100", "1101", "1110", "1111"};
 
 /* A number by a base, with at least so many digits. */
-static void add_digits(text *it, uint64_t number, unsigned base, int least)
+static inline void add_digits(text *it, uint64_t number, unsigned base, int least)
 {
     char digits[20];
     int at = (int)sizeof digits;
@@ -39,7 +16,7 @@ static void add_digits(text *it, uint64_t number, unsigned base, int least)
         digits[--at] = "0123456789abcdef"[number % base];
         number /= base;
     }
-    add(it, digits + at, sizeof digits - (size_t)at);
+    text_add_letters(it, digits + at, sizeof digits - (size_t)at);
 }
 
 void text_add_number(text *it, uint64_t number)
@@ -52,39 +29,71 @@ void text_add_hex(text *it, uint64_t number, int digits)
     add_digits(it, number, 16, digits);
 }
 
-static char bit_at(const uint8_t *octets, uint32_t place)
+static const char *nibble_of(const uint8_t *octets, uint32_t place)
 {
-    return octets[place / 8] >> (7 - place % 8) & 1 ? '1' : '0';
+    return nibbles[octets[place / OCTET] >> (place % OCTET < NIBBLE ? NIBBLE : 0) & 15];
+}
+
+void write_bits(char *letters, const uint8_t *octets, uint32_t place, uint32_t bits)
+{
+    uint32_t end = place + bits;
+    while (place < end) {
+        uint32_t skipped = place % NIBBLE, taken = NIBBLE - skipped;
+        if (taken > end - place)
+            taken = end - place;
+        memcpy(letters, nibble_of(octets, place) + skipped, taken);
+        letters += taken;
+        place += taken;
+    }
 }
 
 void text_add_bits(text *it, const uint8_t *octets, uint32_t place, uint32_t bits)
 {
     char letters[MOST_DRAWN];
     uint32_t many = bits < MOST_DRAWN ? bits : MOST_DRAWN;
-    for (uint32_t at = 0; at < many; at++)
-        letters[at] = bit_at(octets, place + at);
-    add(it, letters, many);
+    write_bits(letters, octets, place, many);
+    text_add_letters(it, letters, many);
     if (bits > MOST_DRAWN)
         text_add(it, "..");
 }
 
-void text_add_mask(text *it, const uint8_t *octets, uint32_t place, uint32_t bits)
+/* Bits by the numbers of their places. */
+static void add_places(text *it, uint32_t place, uint32_t bits)
 {
-    char letters[(MOST_DRAWN + 16) / 4 * 5];
-    size_t length = 0;
-    if (bits == 0 || bits > MOST_DRAWN) {
-        text_add(it, "Bits ");
-        text_add_number(it, place);
-        text_add(it, bits == 0 && place == 0 ? " to -" : " to ");
-        text_add_number(it, bits == 0 && place == 0 ? 1 : place + bits - 1);
-        text_add(it, " = ");
+    text_add(it, "Bits ");
+    text_add_number(it, place);
+    text_add(it, bits == 0 && place == 0 ? " to -" : " to ");
+    text_add_number(it, bits == 0 && place == 0 ? 1 : place + bits - 1);
+    text_add(it, " = ");
+}
+
+/* Four bits of an octet, with dots for those that are not from one place to before another. */
+static void draw_nibble(char *letters, const uint8_t *octets, uint32_t at, uint32_t place, uint32_t end)
+{
+    const char *nibble = nibble_of(octets, at);
+    uint32_t first = at < place ? place - at : 0, last = at + NIBBLE > end ? end - at : NIBBLE;
+    if (at + NIBBLE <= place || at >= end) {
+        memcpy(letters, "....", NIBBLE);
         return;
     }
-    for (uint32_t at = place - place % 8; at < place + bits || at % 8 != 0; at++) {
-        letters[length++] = at < place || at >= place + bits ? '.' : bit_at(octets, at);
-        if (at % 4 == 3)
-            letters[length++] = ' ';
+    for (uint32_t bit = 0; bit < NIBBLE; bit++)
+        letters[bit] = bit < first || bit >= last ? '.' : nibble[bit];
+}
+
+void text_add_mask(text *it, const uint8_t *octets, uint32_t place, uint32_t bits)
+{
+    char letters[(MOST_DRAWN + 2 * OCTET) / NIBBLE * (NIBBLE + 1) + 2];
+    uint32_t end = place + bits;
+    size_t length = 0;
+    if (bits == 0 || bits > MOST_DRAWN) {
+        add_places(it, place, bits);
+        return;
     }
-    add(it, letters, length);
-    text_add(it, "= ");
+    for (uint32_t at = place - place % OCTET; at < end || at % OCTET != 0; at += NIBBLE) {
+        draw_nibble(letters + length, octets, at, place, end);
+        letters[length + NIBBLE] = ' ';
+        length += NIBBLE + 1;
+    }
+    memcpy(letters + length, "= ", 2);
+    text_add_letters(it, letters, length + 2);
 }
