@@ -3,8 +3,8 @@
 
 usage: bench/tools.py [--bin PATH] [--companion PATH] [--archive PATH] [--megabytes N] [--times N]
 
-The programs and the library are those that are built in crates where they are left out. Prints three tables, each of what
-is at hand:
+The programs and the library are those that are built in crates where they are left out. Takes about two minutes, and prints
+the three tables of docs/BENCH.md, each of what is at hand:
   - how many frames a second tools/gsmtap.py answers on one processor, of a capture that tools/to_pcap.py makes of lines of
     all entries, by the time of the processor;
   - how many microseconds of the processor each plugin adds to tshark for a block, the least of N times;
@@ -31,7 +31,9 @@ from tried import Tried  # noqa: E402
 from tsharks import tsharks_of  # noqa: E402
 
 WORKERS = (1, 2, 4)
-PLUGIN_FRAMES = 20_000
+ANSWERED_OCTETS = 10_000_000
+# How many frames each plugin shows, and tshark alone.
+FRAMES = {"": 20_000, "C": 20_000, "Lua": 2_000}
 FIELDS = ["-T", "fields", "-e", "frame.number"]
 # What tshark is asked for: without a plugin, and with one.
 ASKED = {
@@ -87,20 +89,20 @@ def measure_answers(program: str, lines: list[str], folder: str, times: int) -> 
 def measure_plugins(tried: Tried, lines: list[str], times: int) -> None:
     """What a plugin adds to tshark for a block, without what it takes to start both."""
     folder, processors = str(tried.folder), {min(os.sched_getaffinity(0))}
-    one, all_frames = (capture_of(lines[:many], folder, f"frames-{many}") for many in (1, PLUGIN_FRAMES))
-    plugins = tsharks_of(tried)
+    captures = {many: capture_of(lines[:many], folder, f"frames-{many}") for many in {1, *FRAMES.values()}}
+    plugins = sorted(tsharks_of(tried), key=lambda tshark: tshark.name)
 
-    def microseconds(words: list[str], home: str, asked: list[str], program: str) -> float:
+    def microseconds(name: str, words: list[str], home: str, asked: list[str], program: str) -> float:
         variables = {"HOME": home, "NAMBROIT_PROGRAM": program}
-        least = [min(taken([*words, "-r", capture, *asked], os.devnull, os.devnull, processors, **variables)[1]
-                     for _ in range(times)) for capture in (one, all_frames)]
-        return (least[1] - least[0]) / (PLUGIN_FRAMES - 1) * 1e6
+        least = [min(taken([*words, "-r", captures[many], *asked], os.devnull, os.devnull, processors, **variables)[1]
+                     for _ in range(times)) for many in (1, FRAMES[name])]
+        return (least[1] - least[0]) / (FRAMES[name] - 1) * 1e6
 
-    print("| tshark is asked for | Alone, microseconds a frame |" + "".join(f" {tshark.name} adds |" for tshark in plugins))
+    print("| tshark is asked for | Alone |" + "".join(f" {tshark.name} adds |" for tshark in plugins))
     print("|---|---|" + "---|" * len(plugins))
     for what, (without, with_plugin) in ASKED.items():
-        alone = microseconds(["tshark"], folder, without, "")
-        added = [microseconds(tshark.words, str(tshark.folder), with_plugin, tshark.companion) - alone
+        alone = microseconds("", ["tshark"], folder, without, "")
+        added = [microseconds(tshark.name, tshark.words, str(tshark.folder), with_plugin, tshark.companion) - alone
                  for tshark in plugins]
         print(f"| {what} | {alone:.1f} |" + "".join(f" {one:.1f} |" for one in added), flush=True)
     print()
@@ -126,11 +128,13 @@ def main() -> int:
     options = parser.parse_args()
     lines = lines_of(options.megabytes * 1_000_000)
     with tempfile.TemporaryDirectory() as folder:
-        measure_answers(options.bin, lines, folder, options.times)
+        few = lines[:len(lines) * ANSWERED_OCTETS // (options.megabytes * 1_000_000)]
+        measure_answers(options.bin, few, folder, options.times)
         if shutil.which("tshark"):
             companion, archive = (path if os.path.isfile(path) else "" for path in (options.companion, options.archive))
             measure_plugins(Tried(options.bin, companion, archive, Path(folder), False), lines, options.times)
         if shutil.which("parallel"):
+            Path(folder, "lines").write_text("".join(lines))
             measure_workers(options.bin, lines, folder)
     return 0
 
