@@ -7,6 +7,8 @@ mod asked;
 mod checking;
 mod conflicts;
 mod example;
+mod facts;
+mod kind;
 mod layout;
 mod listing;
 mod nodes;
@@ -22,4 +24,7 @@ mod words;
 
 pub use asked::Asked;
 pub use checking::check;
+pub use facts::{NodeFacts, facts_of};
+pub use kind::NodeKind;
 pub use listing::list_nodes;
+pub use spot::Spot;

@@ -4,6 +4,7 @@ ghost use Rattle.std.specs.Prelude.{◌≤◌, length};
 ghost use Rattle.csn_plan.specs.declared.compiling.TheConstants.{MOST_DESCRIPTION};
 
 use crate::asked::Asked;
+use crate::kind::NodeKind;
 use crate::nodes::{parents_of, way_up};
 use crate::path::push_path;
 use crate::sizes::{Size, size_at, sizes_of};
@@ -75,7 +76,7 @@ fn push_facts(node: &Node, spot: Spot, size: Size, out: &mut Vec<u8>) -> Told {
     out.push(b':')?;
     push_number(out, spot.column)?;
     out.push(b'\t')?;
-    words(out, kind_of(node))?;
+    words(out, NodeKind::of(node).name())?;
     out.push(b'\t')?;
     match size.most {
         Some(most) if most == size.least => push_long(out, most)?,
@@ -90,23 +91,4 @@ fn push_long(out: &mut Vec<u8>, number: u64) -> Told {
     let mut buffer = Buffer::new();
     out.extend_from_slice(buffer.format(number).as_bytes())?;
     Ok(())
-}
-
-/// What a node is.
-fn kind_of(node: &Node) -> &'static str {
-    match node {
-        Node::Lits(_) => "literal",
-        Node::Spare(_) => "spare",
-        Node::Pad => "padding",
-        Node::Null => "null",
-        Node::Field { .. } => "field",
-        Node::Rest => "rest",
-        Node::Seq(_) => "sequence",
-        Node::Choice(_) => "choice",
-        Node::Times { .. } => "repetition",
-        Node::Many(_) => "repetition",
-        Node::Trunc(_) => "truncation",
-        Node::Window { .. } => "window",
-        Node::Named { .. } => "label",
-    }
 }
