@@ -38,6 +38,7 @@ def main():
             run("migrate.py"),
             run("tools.py"),
             run("explain.py", "--speed"),
+            run("cover.py", "--descriptions", "100"),
             run("mistakes.py"),
             run("descriptions.py"),
             run("certify.py", catalogue.name, *beside),

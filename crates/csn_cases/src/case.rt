@@ -2,7 +2,7 @@ ghost use Rattle.std.specs.Prelude.{◌≡◌, ◌≤◌, IfOk};
 
 use crate::shelf::Shelf;
 use csn_catalogue::entries;
-use csn_companion::{Asked, Job, explain, reading_of};
+use csn_companion::{Asked, Job, Order, explain, reading_of};
 use csn_io::{MemShelf, MemSink, MemSource, Sink};
 use csn_replay::{BitsWatcher, EntryWatcher, RefusedWatcher, Watcher};
 use csn_run::{Ended, Outside, run};
@@ -10,6 +10,9 @@ use std::alloc::{AllocError, Global};
 
 /// The word before the words of a run of the companion.
 const COMPANION: &str = "csn_explain";
+
+/// The word that asks for trees behind blocks.
+const TREES: &str = "--trees";
 
 /// A run, and what it must come to.
 #[derive(Drop)]
@@ -58,14 +61,14 @@ impl Case {
 
     /// What the words ask of the companion, where they begin with its name.
     fn asked(&self) -> Option<Asked<'_>> {
-        let [program, job, file, name, reading] = self.words.as_slice() else {
+        let [program, job, file, name, reading, order @ ..] = self.words.as_slice() else {
             return None;
         };
         if program.as_str() != COMPANION {
             return None;
         }
         Some(Asked {
-            job: Job::of_word(job.as_str())?,
+            job: job_of(job.as_str(), order)?,
             file: file.as_str(),
             name: name.as_str(),
             reading: reading_of(reading.as_str())?,
@@ -116,5 +119,22 @@ impl Case {
             came.text.as_slice() == self.output.as_slice()
         };
         text && came.status == self.status
+    }
+}
+
+/// What a word asks of the companion, with the words behind the reading.
+fn job_of(word: &str, order: &[String]) -> Option<Job> {
+    match (Job::of_word(word)?, order) {
+        (Job::Blocks(_), [count, seed]) => Some(Job::Blocks(Order::of_words(
+            count.as_str(),
+            seed.as_str(),
+            false,
+        )?)),
+        (Job::Blocks(_), [count, seed, trees]) if trees.as_str() == TREES => Some(Job::Blocks(
+            Order::of_words(count.as_str(), seed.as_str(), true)?,
+        )),
+        (Job::Blocks(_), _) => None,
+        (job, []) => Some(job),
+        _ => None,
     }
 }

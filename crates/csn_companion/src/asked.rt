@@ -22,6 +22,40 @@ pub enum Job {
     Picture,
     /// The blocks of trees, or why there is none, in words.
     Write,
+    /// Blocks that are strings.
+    Blocks(Order),
+    /// Few blocks that go all ways that the strings of the rule can go.
+    Cover,
+    /// Blocks that are nearly strings.
+    Nearly,
+}
+
+/// Which blocks are made: how many, from which seed, and whether each is told with its tree.
+#[derive(Clone, Copy, Debug, PartialEq, Eq)]
+pub struct Order {
+    pub count: u32,
+    pub seed: u64,
+    pub trees: bool,
+}
+
+impl Order {
+    /// No blocks.
+    pub const NONE: Order = Order {
+        count: 0,
+        seed: 0,
+        trees: false,
+    };
+
+    /// The order of two words that are numbers.
+    pub fn of_words(count: &str, seed: &str, trees: bool) -> Option<Order>
+        ensures { IfSome result (λ order. order.trees ≡ trees) }
+    {
+        Some(Order {
+            count: count.parse::<u32>().ok()?,
+            seed: seed.parse::<u64>().ok()?,
+            trees,
+        })
+    }
 }
 
 /// What is asked for, of the rule of a file.
@@ -47,10 +81,13 @@ impl Job {
             Job::Show => "show",
             Job::Picture => "picture",
             Job::Write => "write",
+            Job::Blocks(_) => "blocks",
+            Job::Cover => "cover",
+            Job::Nearly => "nearly",
         }
     }
 
-    /// The job that a word asks for.
+    /// The job that a word asks for. Of blocks it asks for none.
     pub fn of_word(word: &str) -> Option<Job>
         ensures named { IfSome result (λ job. word.now ≡ job_word job) }
         ensures none { (job : Job) → word.now ≡ job_word job → IsSome result }
@@ -62,6 +99,9 @@ impl Job {
             b"show" => Some(Job::Show),
             b"picture" => Some(Job::Picture),
             b"write" => Some(Job::Write),
+            b"blocks" => Some(Job::Blocks(Order::NONE)),
+            b"cover" => Some(Job::Cover),
+            b"nearly" => Some(Job::Nearly),
             _ => None,
         }
     }

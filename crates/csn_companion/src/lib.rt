@@ -5,6 +5,7 @@ mod asked;
 mod lines;
 mod opening;
 mod running;
+mod sampling;
 
-pub use asked::{Asked, Job, reading_of};
+pub use asked::{Asked, Job, Order, reading_of};
 pub use running::explain;

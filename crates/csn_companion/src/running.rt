@@ -10,6 +10,7 @@ ghost use Rattle.csn_companion.specs.Outside.{CannotRead, IsFinished, end_with};
 use crate::asked::{Asked, Job};
 use crate::lines::Lines;
 use crate::opening::{fetch_text, plan_of, refuse};
+use crate::sampling::{make_blocks, push_vectors};
 use csn_bits::NoMemory;
 use csn_certify::Plan;
 use csn_explaining::{
@@ -115,6 +116,7 @@ fn answer_by_plan<S: Source, K: Sink>(
         Job::Fields => answer_blocks::<FieldLines, S, K>(alloc, plan, input, out, lines),
         Job::Show => answer_blocks::<Table, S, K>(alloc, plan, input, out, lines),
         Job::Picture => draw(alloc, asked.name, plan, input, out, lines),
+        Job::Blocks(order) => make_blocks(alloc, order, plan, out, lines),
         _ => {
             let mut teller = TreeTeller::new(alloc, plan);
             answer_lines(alloc, &mut teller, input, out, lines)
@@ -139,6 +141,7 @@ fn push_report(
     };
     match asked.job {
         Job::Nodes => list_nodes(alloc, about, out),
+        Job::Cover | Job::Nearly => push_vectors(alloc, asked.job, about, out),
         _ => check(alloc, about, out),
     }
 }
@@ -225,7 +228,9 @@ fn perform<B: Shelf, S: Source, K: Sink>(
     ensures out { Keeps (K.steady out.old) (K.steady out.new) (K.faults out.old) (K.faults out.new) (result ≡ Err Fault.Write) }
 {
     match asked.job {
-        Job::Check | Job::Nodes => report(alloc, asked, shelf, &mut lines.pending),
+        Job::Check | Job::Nodes | Job::Cover | Job::Nearly => {
+            report(alloc, asked, shelf, &mut lines.pending)
+        }
         _ => answer_by_rule(alloc, asked, shelf, input, out, lines),
     }
 }

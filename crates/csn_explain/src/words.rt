@@ -1,21 +1,24 @@
 //! The words of the program, as `clap` reads them.
 
 use clap::error::ErrorKind;
-use clap::{Arg, ArgMatches, Command, Error};
-use csn_companion::{Asked, Job, reading_of};
+use clap::{Arg, ArgAction, ArgMatches, Command, Error};
+use csn_companion::{Asked, Job, Order, reading_of};
 use std::alloc::{AllocError, Global};
 
 /// The version that is told.
 const VERSION: &str = "1.0";
 
 /// What may be asked for, in the order of the help.
-static JOBS: [Job; 6] = [
+static JOBS: [Job; 9] = [
     Job::Check,
     Job::Nodes,
     Job::Fields,
     Job::Show,
     Job::Picture,
     Job::Write,
+    Job::Blocks(Order::NONE),
+    Job::Cover,
+    Job::Nearly,
 ];
 
 /// What a job does, for the help.
@@ -30,6 +33,11 @@ fn about<'a>(job: Job) -> &'a str {
         Job::Picture => "Reads block lines, and draws them bit by bit as one page of HTML",
         Job::Write =>
             "Reads trees, and writes the block of each, or says in words where it does not fit",
+        Job::Blocks(_) => "Makes blocks that are strings of a rule",
+        Job::Cover =>
+            "Makes few blocks that go all the ways that strings of a rule can go, and lists what they do not go",
+        Job::Nearly =>
+            "Makes blocks that are refused, one for each small change at each part of a rule",
     }
 }
 
@@ -44,11 +52,28 @@ fn job_words<'a>(alloc: Global, job: Job) -> Result<Command<'a>, AllocError> {
     let reading = Arg::new(alloc, "READING").required(true).help(
         "received: what a receiver must take; sent: what a sender may write",
     );
-    Command::new(alloc, job.word())
+    let command = Command::new(alloc, job.word())
         .about(about(job))
         .arg(file)?
         .arg(name)?
-        .arg(reading)
+        .arg(reading)?;
+    match job {
+        Job::Blocks(_) => with_order(alloc, command),
+        _ => Ok(command),
+    }
+}
+
+/// The words of a job with those that say which blocks are made.
+fn with_order<'a>(alloc: Global, command: Command<'a>) -> Result<Command<'a>, AllocError> {
+    let count = Arg::new(alloc, "N").required(true).help("How many blocks");
+    let seed = Arg::new(alloc, "SEED")
+        .required(true)
+        .help("A number: the same seed gives the same blocks");
+    let trees = Arg::new(alloc, "trees")
+        .long("trees")
+        .action(ArgAction::SetTrue)
+        .help("Writes the tree of each block behind it");
+    command.arg(count)?.arg(seed)?.arg(trees)
 }
 
 /// The words of the program.
@@ -64,11 +89,23 @@ fn program_words<'a>(alloc: Global) -> Result<Command<'a>, AllocError> {
     Ok(program)
 }
 
-/// What the words that were read ask for, where they name a reading.
+/// The job of a word, with which blocks are made where it makes some.
+fn job_by(word: &str, arguments: &ArgMatches<'_>) -> Option<Job> {
+    match Job::of_word(word)? {
+        Job::Blocks(_) => Some(Job::Blocks(Order::of_words(
+            arguments.get_str("N")?,
+            arguments.get_str("SEED")?,
+            arguments.get_flag("trees"),
+        )?)),
+        job => Some(job),
+    }
+}
+
+/// What the words that were read ask for, where they name a reading, and numbers where these are asked for.
 fn asked_by<'a>(matches: &ArgMatches<'a>) -> Option<Asked<'a>> {
     let (word, arguments) = matches.subcommand()?;
     Some(Asked {
-        job: Job::of_word(word)?,
+        job: job_by(word, arguments)?,
         file: arguments.get_str("FILE")?,
         name: arguments.get_str("NAME")?,
         reading: reading_of(arguments.get_str("READING")?)?,
@@ -82,6 +119,9 @@ pub fn read_words<'a>(alloc: Global, words: &'a [String]) -> Result<Asked<'a>, E
     let matches = program.try_get_matches_from_mut(words)?;
     match asked_by(&matches) {
         Some(asked) => Ok(asked),
-        None => Err(program.error(ErrorKind::InvalidValue, "READING is `received` or `sent`")?),
+        None => Err(program.error(
+            ErrorKind::InvalidValue,
+            "READING is `received` or `sent`, and N and SEED are numbers",
+        )?),
     }
 }
