@@ -23,6 +23,7 @@ CALLS = ("judge", "pieces", "tell", "show", "json", "write")
 COMMANDS = {"show": "show", "json": "json", "write": "write"}
 BLOCKS = 2000
 RUNS = 5
+MOST_INPUT = 16_777_216
 
 
 def lines(words, given, **more):
@@ -57,14 +58,15 @@ def best(call, count):
 
 
 def by_program(program, catalogue, name, blocks, count):
-    """Rates of the program, which is given as many lines."""
+    """Rates of the program, which is given as many lines, or as many as an input may have."""
     trees = [answer[3:] for answer in lines([program, "show", catalogue, name, "received"], "\n".join(blocks) + "\n")]
     told = {}
     for call, command in COMMANDS.items():
         given = trees if call == "write" else blocks
-        text = "".join(f"{given[i % len(given)]}\n" for i in range(count)).encode()
+        many = min(count, MOST_INPUT // (1 + max(map(len, given))))
+        text = "".join(f"{given[i % len(given)]}\n" for i in range(many)).encode()
         words = [program, command, catalogue, name, "received"]
-        told[call] = best(lambda: subprocess.run(words, input=text, stdout=subprocess.DEVNULL, check=True), count)
+        told[call] = best(lambda: subprocess.run(words, input=text, stdout=subprocess.DEVNULL, check=True), many)
     return told
 
 
