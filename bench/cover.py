@@ -4,11 +4,12 @@
 usage: bench/cover.py [--bin PATH] [--companion PATH] [--blocks N] [--descriptions N] [--chance N] [--seed S] [FOLDER]
 
 The paths are crates/csn_cli/out/csn_cli and crates/csn_explain/out/csn_explain where they are left out. By each message of
-descriptions/, in both readings, `csn_cli show` answers each block of `blocks` with the tree that is told, takes each of
-`cover`, and answers each of `nearly` as is told: N blocks of `blocks` altogether, 100,000 where that is left out. Then, on N
-random descriptions, 2,000 where that is left out, or on all *.csn1 of FOLDER whose rule is `M`, it asks whether some of
-20,000 blocks by chance, or of the number that is given, go a way that no block of `cover` goes where it has told of one: a
-part, told by the path of its field, that is in none of them. Prints a table, and a line for each difference.
+descriptions/ and of N random descriptions, 2,000 where that is left out, or of all *.csn1 of FOLDER whose rule is `M`, in both
+readings, `csn_cli show` answers each block of `blocks` with the tree that is told, takes each of `cover`, and answers each of
+`nearly` as is told: N blocks of `blocks` of the messages, 100,000 where that is left out, and as many of the others. Then it
+asks of the random descriptions whether some of 20,000 blocks by chance, or of the number that is given, go a way that no block
+of `cover` goes where it has told of one: a part, told by the path of its field, that is in none of them. Prints a table, and a
+line for each difference.
 """
 from __future__ import annotations
 
@@ -151,31 +152,48 @@ def compare(differences: Differences, where: str, blocks: list[str], told: list[
     return len(blocks)
 
 
-def answers(programs: Programs, wanted: int, seed: int, differences: Differences) -> None:
-    """Holds what is told of blocks of all messages against `show`."""
-    cases = [(file, rule, reading) for file, rule in messages() for reading in READINGS]
-    each = str(-(-wanted // len(cases)))
-    counts = {"blocks": 0, "cover": 0, "nearly": 0}
-    unmet = 0
-    for file, rule, reading in cases:
-        where = f"{Path(file).name} {rule} {reading}"
-        told = programs.told("blocks", file, rule, reading, each, str(seed), "--trees")
+class Held:
+    """What is told of blocks, held against `show`."""
+
+    def __init__(self, programs: Programs, seed: int, differences: Differences) -> None:
+        self.programs, self.seed, self.differences = programs, str(seed), differences
+        self.counts = {"blocks": 0, "cover": 0, "nearly": 0}
+        self.unmet = 0
+
+    def hold(self, job: str, case: tuple[str, str, str], told: list[list[str]], wanted: list[str] | None) -> None:
         blocks = [line[0] for line in told]
-        shown = programs.show(file, rule, reading, blocks)
-        counts["blocks"] += compare(differences, where, blocks, [f"ok {line[1]}" for line in told], shown)
-        told = programs.told("cover", file, rule, reading)
-        unmet += sum(line[0] == "unmet" for line in told)
-        blocks = [line[0] for line in told if line[0] != "unmet"]
-        shown = [answer[:3] for answer in programs.show(file, rule, reading, blocks)]
-        counts["cover"] += compare(differences, where, blocks, ["ok "] * len(blocks), shown)
-        told = programs.told("nearly", file, rule, reading)
-        blocks = [line[0] for line in told]
-        shown = programs.show(file, rule, reading, blocks)
-        counts["nearly"] += compare(differences, where, blocks, [line[1] for line in told], shown)
-    print("| Command | Blocks that `show` answers as told |\n|---|---|")
-    for job, count in counts.items():
-        print(f"| `{job}` | {count:,} |")
-    print(f"\n{unmet:,} ways are not met, over {len(cases)} messages and readings.\n", flush=True)
+        shown = self.programs.show(*case, blocks)
+        if wanted is None:
+            shown, wanted = [answer[:3] for answer in shown], ["ok "] * len(blocks)
+        self.counts[job] += compare(self.differences, " ".join(case), blocks, wanted, shown)
+
+    def case(self, case: tuple[str, str, str], many: int) -> None:
+        """Holds so many blocks by chance of a rule in a reading, and those that cover it and nearly are strings of it."""
+        told = self.programs.told("blocks", *case, str(many), self.seed, "--trees")
+        self.hold("blocks", case, told, [f"ok {line[1]}" for line in told])
+        told = self.programs.told("cover", *case)
+        met = [line for line in told if line[0] != "unmet"]
+        self.unmet += len(told) - len(met)
+        self.hold("cover", case, met, None)
+        told = self.programs.told("nearly", *case)
+        self.hold("nearly", case, told, [line[1] for line in told])
+
+    def cases(self, files: list[tuple[str, str]], wanted: int) -> None:
+        """Holds altogether so many blocks by chance, or a few more, of the rules of some files."""
+        for file, rule in files:
+            for reading in READINGS:
+                self.case((file, rule, reading), -(-wanted // (len(files) * len(READINGS))))
+
+
+def answers(programs: Programs, wanted: int, seed: int, files: list[str], differences: Differences) -> None:
+    """Holds what is told of blocks of all messages and of random descriptions against `show`."""
+    real, made = Held(programs, seed, differences), Held(programs, seed, differences)
+    real.cases(messages(), wanted)
+    made.cases([(file, "M") for file in files if programs.certifies(file, "M", "sent")], wanted)
+    print("| Command | Blocks of messages that `show` answers as told | Of random descriptions |\n|---|---|---|")
+    for job, count in real.counts.items():
+        print(f"| `{job}` | {count:,} | {made.counts[job]:,} |")
+    print(f"\n{real.unmet:,} ways of messages are not met.\n", flush=True)
 
 
 def covered(programs: Programs, files: list[str], chance: int, seed: int, differences: Differences) -> None:
@@ -223,12 +241,12 @@ def main() -> int:
     options = parser.parse_args()
     programs = Programs(options.bin, options.companion)
     differences = Differences()
-    answers(programs, options.blocks, options.seed, differences)
     with tempfile.TemporaryDirectory() as folder:
         if options.folder:
             files = [str(path) for path in sorted(Path(options.folder).glob("*.csn1"))]
         else:
             files = random_files(folder, options.descriptions, options.seed, programs)
+        answers(programs, options.blocks, options.seed, files, differences)
         covered(programs, files, options.chance, options.seed, differences)
     print(f"{differences.count:,} differences.")
     return 1 if differences.count else 0
