@@ -3,11 +3,11 @@ use Rattle.std.proofs.Common.{◌≡◌, ℕ, ◌+◌, ◌<◌, ◌≤◌, ◌�
 use Rattle.std.proofs.Common.{subst, arith, Option, Some, None, slice_get}
 use Rattle.std.proofs.lemmas.Option.{slice_get_within}
 use Rattle.csn_desc.specs.declared.node.Node.TheVariants.{Null, Choice}
-use Rattle.csn_desc.specs.declared.node.Node.{Node}
 use Rattle.csn_desc.specs.Nodes.{DescV}
 use Rattle.csn_look.specs.Keys.{IsNotFirm, IsFirm}
-use Rattle.csn_look.specs.Starts.{InStart, NodeStarts, starts_at, starts_choice}
+use Rattle.csn_look.specs.Starts.{InStart, NodeStarts, starts_choice}
 use Rattle.csn_look.specs.Reached.{Reached}
+use Rattle.csn_look.proofs.Meaning.LeastSets.{as_starts}
 use Rattle.csn_look.proofs.Handing.ReachedParts.{reached_small}
 use Rattle.csn_certify.specs.declared.conflict.Conflict.{Conflict}
 use Rattle.csn_certify.specs.declared.conflict.Conflict.TheVariants.{TwoEmpty, NotFirm, Overlap, EmptyClash, LoopClash, NotLast}
@@ -19,10 +19,7 @@ use Rattle.csn_certify.proofs.ConflictKinds.{ChoiceFits, choice_fits}
 
 -- what takes no bits begins with none
 null_starts : (d : DescV) (q octet bit : ℕ) → IsNull d q → InStart d q octet bit → ⊥
-null_starts d q octet bit null (starts_at n at h) =
-    let same : n ≡ Null = cc in
-    let here : NodeStarts d Null octet bit = subst (λ (m : Node). NodeStarts d m octet bit) same h in
-    elim here [ ]
+null_starts d q octet bit null h = let here : NodeStarts d Null octet bit = as_starts null h in elim here [ ]
 
 -- a choice begins with what some alternative begins with
 record Begins (d : DescV) (parts : List ℕ) (octet bit : ℕ) : Type 0 where
@@ -33,9 +30,7 @@ record Begins (d : DescV) (parts : List ℕ) (octet bit : ℕ) : Type 0 where
 
 choice_start : (d : DescV) (node octet bit : ℕ) (parts : List ℕ) → slice_get d.nodes node ≡ Some (Choice parts)
     → InStart d node octet bit → Begins d parts octet bit
-choice_start d node octet bit parts at (starts_at n here h) =
-    let same : n ≡ Choice parts = cc in
-    of_node (subst (λ (m : Node). NodeStarts d m octet bit) same h)
+choice_start d node octet bit parts at h = of_node (as_starts at h)
   where
     of_node : NodeStarts d (Choice parts) octet bit → Begins d parts octet bit
     of_node (starts_choice {i = i} j at_j start) = record { j = j; q = i; is_part = at_j; start = start }

@@ -4,13 +4,13 @@ use Rattle.std.proofs.Common.{◌≡◌, ℕ, ◌+◌, ◌≤◌, ◌⊎◌, inl
 use Rattle.std.proofs.Common.{sym, ◌∙◌, ap, subst, arith, length-append, append-nil, Option, Some, None, slice_get}
 use Rattle.std.specs.Prelude.{IsTrue}
 use Rattle.std.proofs.lemmas.Option.{slice_get_within}
-use Rattle.csn_desc.specs.declared.node.Node.{Node}
 use Rattle.csn_desc.specs.declared.node.Node.TheVariants.{Null}
 use Rattle.csn_desc.specs.Nodes.{DescV}
 use Rattle.csn_look.specs.declared.key_table.Begins.{Begins}
 use Rattle.csn_look.specs.declared.key_table.Begins.TheVariants as answer
-use Rattle.csn_look.specs.Keys.{InKeys, NodeKeys, keys_at, keys_null}
+use Rattle.csn_look.specs.Keys.{InKeys, NodeKeys, keys_null}
 use Rattle.csn_look.specs.KeyMarks as marks
+use Rattle.csn_look.proofs.Meaning.LeastSets.{as_keys}
 use Rattle.csn_look.proofs.Basics.Places.{word_front}
 use Rattle.csn_look.proofs.Tables.KeyWords.{key_word}
 use Rattle.csn_certify.specs.Conflicts.{IsNull}
@@ -20,10 +20,7 @@ use Rattle.csn_certify.specs.Choosing.{IsNone, BeginsKeyOf, StandsTo, AreWithout
 module _ (d : DescV) where
   -- the keys of a node without bits are empty
   pub null_key : {i o : ℕ} {w : List ℕ} {mark : Bool} → IsNull d i → InKeys d 12 i o w mark → w ≡ []
-  null_key {o = o} {w = w} {mark = mark} at (keys_at n is h) =
-      let same : n ≡ Null = cc in
-      let P : Node → Type 0 = λ m. NodeKeys d 12 m o w mark in
-      of_null (subst P same h)
+  null_key {o = o} {w = w} {mark = mark} at h = of_null (as_keys at h)
     where
       of_null : NodeKeys d 12 Null o w mark → w ≡ []
       of_null (keys_null none is_whole) = none

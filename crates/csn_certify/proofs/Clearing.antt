@@ -2,9 +2,10 @@
 use Rattle.std.proofs.Common.{◌%◌, ℕ, inl, [], refl}
 use Rattle.csn_desc.specs.declared.node.Node.TheVariants.{Seq, Choice, Times, Many, Trunc, Named}
 use Rattle.csn_desc.specs.Nodes.{DescV}
-use Rattle.csn_look.specs.Reached.{follow_part, follow_later, follow_seq, follow_kept, follow_trunc}
+use Rattle.csn_look.specs.Reached.{follow_later, follow_seq, follow_kept, follow_trunc}
 use Rattle.csn_look.specs.Reached.{follow_times_again, follow_times, follow_many_again, follow_many, follow_choice}
 use Rattle.csn_look.specs.Reached.{follow_named}
+use Rattle.csn_look.proofs.Meaning.LeastSets.{follow_part}
 use Rattle.csn_look.proofs.Meaning.ShapeFacts.{shaped}
 use Rattle.csn_look.proofs.Meaning.ReachFacts.{many_reached}
 use Rattle.csn_claims.proofs.Clear.{Clear}

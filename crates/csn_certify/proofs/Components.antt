@@ -8,9 +8,10 @@ use Rattle.csn_desc.specs.Values.{Values, with_value}
 use Rattle.csn_desc.specs.Means.{NMeans, NodeMeans, LeadMean, means_cut, means_trunc, lead_last, lead_next}
 use Rattle.csn_desc.specs.Follows.{NodeFollows, PartsFollow, follows_whole, follows_trunc, parts_here, parts_later}
 use Rattle.csn_desc.specs.Laws.{StringsAreFollowed}
-use Rattle.csn_look.specs.Ends.{InEnds, PartsEnd, LeadEnd, ends_at, ends_trunc, parts_end, parts_next, lead_end}
+use Rattle.csn_look.specs.Ends.{InEnds, PartsEnd, LeadEnd, ends_trunc, parts_end, parts_next, lead_end}
 use Rattle.csn_look.specs.Ends as end
 use Rattle.csn_look.specs.Reached.{Reached, InFollow, MayStandBehind}
+use Rattle.csn_look.proofs.Meaning.LeastSets.{ends_at}
 use Rattle.csn_claims.proofs.Pieces.{some_bit}
 use Rattle.csn_claims.proofs.OneTree.{lead_some}
 use Rattle.csn_certify.specs.declared.conflict.Conflict.TheVariants.{NotLast}

@@ -6,9 +6,10 @@ use Rattle.csn_desc.specs.declared.node.Node.{Node}
 use Rattle.csn_desc.specs.declared.node.Node.TheVariants.{Lits, Spare, Pad, Null, Field, Rest, Seq, Choice, Times, Many, Trunc, Window, Named}
 use Rattle.csn_desc.specs.Nodes.{DescV}
 use Rattle.csn_look.specs.Nullable.{Nullable}
-use Rattle.csn_look.specs.Starts.{starts_at, starts_choice}
+use Rattle.csn_look.specs.Starts.{starts_choice}
 use Rattle.csn_look.specs.Keys.{InKeys, IsNotFirm}
 use Rattle.csn_look.specs.Reached.{Reached}
+use Rattle.csn_look.proofs.Meaning.LeastSets.{starts_at}
 use Rattle.csn_certify.specs.declared.conflict.Conflict.{Conflict}
 use Rattle.csn_certify.specs.declared.conflict.Conflict.TheVariants.{TwoEmpty, NotFirm, Overlap, EmptyClash, LoopClash, NotLast}
 use Rattle.csn_certify.specs.Conflicts.{IsBegunBy, IsLast, IsNull, IsConflict, two_empty, choice_not_firm}

@@ -6,8 +6,9 @@ use Rattle.csn_desc.specs.declared.symbol.Symbol.TheVariants.{Zero, One}
 use Rattle.csn_desc.specs.declared.node.Count.{Count}
 use Rattle.csn_desc.specs.declared.node.Node.{Node}
 use Rattle.csn_desc.specs.declared.node.Node.TheVariants.{Null, Lits, Choice, Times, Many}
-use Rattle.csn_look.specs.Nullable.{Nullable, NodeNullable, nullable_at}
-use Rattle.csn_look.specs.Keys.{Cut, kept, cut, InKeys, NodeKeys, keys_at, keys_lits, IsNotFirm}
+use Rattle.csn_look.specs.Nullable.{Nullable, NodeNullable}
+use Rattle.csn_look.specs.Keys.{Cut, kept, cut, InKeys, NodeKeys, keys_lits, IsNotFirm}
+use Rattle.csn_look.proofs.Meaning.LeastSets.{nullable_of, keys_at, as_keys}
 use Rattle.csn_certify.specs.declared.pick.Pick.TheVariants.{Take, Wait}
 use Rattle.csn_certify.specs.Conflicts.{IsNull, IsBegunBy, IsLast, two_empty, choice_not_firm, many_not_firm}
 use Rattle.csn_certify.specs.Conflicts.{times_not_firm, overlap, empty_clash, loop_clash, not_last, Certified}
@@ -86,13 +87,13 @@ key_of bit (kept short is whole) = is
 key_of bit (cut long is whole) = absurd (omega arith)
 
 key_left : {o : ℕ} {word : List ℕ} {mark : Bool} → InKeys zero_or_one 12 1 o word mark → word ≡ 0 ∷ []
-key_left {o} {word} {mark} (keys_at n at h) = of_lits (let same : n ≡ Lits (Zero ∷ []) = cc in subst (λ m. NodeKeys zero_or_one 12 m o word mark) same h)
+key_left {o} {word} {mark} h = of_lits (as_keys refl h)
   where
     of_lits : NodeKeys zero_or_one 12 (Lits (Zero ∷ [])) o word mark → word ≡ 0 ∷ []
     of_lits (keys_lits h) = key_of 0 h
 
 key_right : {o : ℕ} {word : List ℕ} {mark : Bool} → InKeys zero_or_one 12 2 o word mark → word ≡ 1 ∷ []
-key_right {o} {word} {mark} (keys_at n at h) = of_lits (let same : n ≡ Lits (One ∷ []) = cc in subst (λ m. NodeKeys zero_or_one 12 m o word mark) same h)
+key_right {o} {word} {mark} h = of_lits (as_keys refl h)
   where
     of_lits : NodeKeys zero_or_one 12 (Lits (One ∷ [])) o word mark → word ≡ 1 ∷ []
     of_lits (keys_lits h) = key_of 1 h
@@ -105,13 +106,13 @@ no_bits : {s : Symbol} → NodeNullable zero_or_one (Lits (s ∷ [])) → ⊥
 no_bits h = elim h [ ]
 
 not_nullable : {j p : ℕ} → IsPart j p → Nullable zero_or_one p → ⊥
-not_nullable {p = p} part (nullable_at n at h) = by_node (node_is p n at) part
+not_nullable {p = p} part null = let u = nullable_of null in by_node (node_is p u.node u.at) part u.has
   where
-    by_node : {j : ℕ} → IsNode p n → IsPart j p → ⊥
-    by_node (root is same) (part_left a b) = absurd (omega arith)
-    by_node (root is same) (part_right a b) = absurd (omega arith)
-    by_node (left is same) q = no_bits (subst (λ m. NodeNullable zero_or_one m) same h)
-    by_node (right is same) q = no_bits (subst (λ m. NodeNullable zero_or_one m) same h)
+    by_node : {j : ℕ} {n : Node} → IsNode p n → IsPart j p → NodeNullable zero_or_one n → ⊥
+    by_node (root is same) (part_left a b) h = absurd (omega arith)
+    by_node (root is same) (part_right a b) h = absurd (omega arith)
+    by_node (left is same) q h = no_bits (subst (λ m. NodeNullable zero_or_one m) same h)
+    by_node (right is same) q h = no_bits (subst (λ m. NodeNullable zero_or_one m) same h)
 
 firm : {j p : ℕ} → IsPart j p → IsNotFirm zero_or_one 12 p → ⊥
 firm part (inl empty) = not_nullable part empty

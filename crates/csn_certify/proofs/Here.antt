@@ -1,7 +1,6 @@
 -- What the laws of csn_desc and csn_look say of one description.
 use Rattle.std.proofs.Common.{◌≡◌, ℕ, ◌+◌, ◌%◌, Bool, List, [], ◌∷◌, ◌++◌, length, ap, subst, arith, length-append, Some, slice_get}
 use Rattle.csn_desc.specs.declared.node.Count.{Count}
-use Rattle.csn_desc.specs.declared.node.Node.{Node}
 use Rattle.csn_desc.specs.declared.node.Node.TheVariants.{Seq, Choice, Times, Many, Named}
 use Rattle.csn_desc.specs.TreeV.{TreeV, Trees}
 use Rattle.csn_desc.specs.Nodes.{DescV}
@@ -12,10 +11,11 @@ use Rattle.csn_desc.specs.Formed.{Formed, formed, IsDescription, FitWidths}
 use Rattle.csn_look.specs.Nullable.{Nullable}
 use Rattle.csn_look.specs.Ends.{InEnds, PartsEnd, parts_end, parts_next}
 use Rattle.csn_desc.specs.Means as mean
-use Rattle.csn_look.specs.Starts.{InStart, NodeStarts, starts_at, starts_many}
+use Rattle.csn_look.specs.Starts.{InStart, NodeStarts, starts_many}
 use Rattle.csn_look.specs.Keys.{InKeys}
 use Rattle.csn_look.specs.Beginnings.{Begun, Near}
 use Rattle.csn_look.specs.Reached.{Reached, InFollow}
+use Rattle.csn_look.proofs.Meaning.LeastSets.{as_starts}
 use Rattle.csn_claims.proofs.Clear as clear
 use Rattle.csn_certify.specs.Known.{Known}
 
@@ -36,10 +36,7 @@ Stands d i o b x = clear.Stands (Follow d) i o b x
 
 -- a free repetition begins as its part does
 pub many_starts : (d : DescV) {node part octet a : ℕ} → slice_get d.nodes node ≡ Some (Many part) → InStart d node octet a → InStart d part octet a
-many_starts d {part = part} {octet = octet} {a = a} at (starts_at n is h) =
-    let same : n ≡ Many part = cc in
-    let P : Node → Type 0 = λ m. NodeStarts d m octet a in
-    of_many (subst P same h)
+many_starts d {part = part} {octet = octet} {a = a} at h = of_many (as_starts at h)
   where
     of_many : NodeStarts d (Many part) octet a → InStart d part octet a
     of_many (starts_many s) = s

@@ -6,17 +6,11 @@ use Rattle.std.specs.Prelude.{IsTrue, IsSomeAnd}
 use Rattle.std.specs.Ordering.{nat_cmp}
 use Rattle.std.specs.FinSet as set
 use Rattle.std.proofs.lemmas.Bool.{or_right}
-use Rattle.csn_desc.specs.declared.reading.Reading.{Reading}
-use Rattle.csn_desc.specs.declared.reading.Reading.TheVariants.{Received, Sent}
-use Rattle.csn_desc.specs.declared.symbol.Symbol.{Symbol}
-use Rattle.csn_desc.specs.declared.symbol.Symbol.TheVariants.{Low}
 use Rattle.csn_desc.specs.declared.node.Count.{Count}
 use Rattle.csn_desc.specs.declared.node.Node.{Node}
 use Rattle.csn_desc.specs.declared.node.Node.TheVariants.{Choice, Times, Many}
 use Rattle.csn_desc.specs.Formed.{IsDescription}
 use Rattle.csn_desc.specs.Nodes.{DescV}
-use Rattle.csn_desc.specs.Spelled.{symbol_bit, IsSpare}
-use Rattle.csn_desc.proofs.BitFacts.{symbol_bit-le-one}
 use Rattle.csn_look.specs.declared.node_sets.NodeSets.{NodeSets}
 use Rattle.csn_look.specs.declared.symbol_set.Sign.{Sign}
 use Rattle.csn_look.specs.declared.symbol_set.Sign.TheVariants.{Zero, One, End}
@@ -28,14 +22,16 @@ use Rattle.csn_look.specs.Told.{OctetsAre, SignsAre, FollowHas}
 use Rattle.csn_look.specs.Sums.{Has}
 use Rattle.csn_look.specs.FollowV.{IsFollow}
 use Rattle.csn_look.specs.NodeSets.{SetsAre, IsLookOf}
-use Rattle.csn_look.specs.Starts.{InStart, NodeStarts, PartsStart, InFirst, starts_at, starts_lits, starts_spare}
-use Rattle.csn_look.specs.Starts.{starts_pad, starts_field, starts_rest, starts_seq, starts_trunc, starts_choice}
-use Rattle.csn_look.specs.Starts.{starts_times, starts_many, starts_window, starts_named, starts_here, starts_later}
+use Rattle.csn_look.specs.Starts.{InStart, PartsStart, InFirst}
 use Rattle.csn_look.specs.Keys.{InKeys, IsNotFirm, IsFirm}
 use Rattle.csn_look.specs.Ends.{InEnds}
-use Rattle.csn_look.specs.Reached.{Reached, InFollow, PartFollow, follow_root, follow_part, follow_later, follow_seq}
+use Rattle.csn_look.specs.Reached.{Reached, InFollow, OfPart, follow_later, follow_seq}
 use Rattle.csn_look.specs.Reached.{follow_kept, follow_trunc, follow_times_again, follow_times, follow_many_again}
 use Rattle.csn_look.specs.Reached.{follow_many, follow_choice, follow_named, follow_window}
+use Rattle.csn_look.specs.Nullable.{Nullable}
+use Rattle.csn_equations.proofs.Small.{parts_bit, node_bit}
+use Rattle.csn_equations.specs.Reached as reach
+use Rattle.csn_look.proofs.Meaning.LeastSets.{StartWith, FollowWith, each_start, each_follow}
 use Rattle.csn_look.proofs.Meaning.EmptyKeys.{empty_key}
 use Rattle.csn_look.proofs.Basics.Octets.{has_union, has_none}
 use Rattle.csn_look.proofs.Handing.ReachedParts.{reached_small, parts_below}
@@ -86,52 +82,42 @@ module _ (d : DescV) where
 
 -- ---- bits
 
-spare_bit : (r : Reading) (s : Symbol) (o bit : ℕ) → IsSpare r s o (bit ∷ []) → bit ≤ 1
-spare_bit Received s o bit bits = bits.0
-spare_bit Sent s o bit is = let same : bit ≡ symbol_bit s o = cc in let small = symbol_bit-le-one s o in omega (arith, same, small)
-
 module _ (d : DescV) where
-  mutual
-    -- what a node begins with is a bit
-    pub start_bit : {i o bit : ℕ} → InStart d i o bit → bit ≤ 1
-    start_bit (starts_at n at h) = node_start_bit h
+  -- what a node begins with is a bit
+  pub start_bit : {i o bit : ℕ} → InStart d i o bit → bit ≤ 1
+  start_bit h =
+      each_start (λ i o bit. bit ≤ 1) (λ i o bit made. node_bit (Nullable d) (InEnds d) (StartWith d (λ i o bit. bit ≤ 1)) (λ j r b first. first.1)
+      d made.has) h
 
-    node_start_bit : {n : Node} {o bit : ℕ} → NodeStarts d n o bit → bit ≤ 1
-    node_start_bit {o = o} (starts_lits {s = s} is) = let small = symbol_bit-le-one s o in omega (arith, is, small)
-    node_start_bit {o = o} {bit = bit} (starts_spare {s = s} spare) = spare_bit d.reading s o bit spare
-    node_start_bit {o = o} {bit = bit} (starts_pad spare) = spare_bit d.reading Low o bit spare
-    node_start_bit (starts_field small) = small
-    node_start_bit (starts_rest small) = small
-    node_start_bit (starts_seq h) = parts_start_bit h
-    node_start_bit (starts_trunc h) = parts_start_bit h
-    node_start_bit (starts_choice j at h) = start_bit h
-    node_start_bit (starts_times h) = start_bit h
-    node_start_bit (starts_many h) = start_bit h
-    node_start_bit (starts_window h) = start_bit h
-    node_start_bit (starts_named h) = start_bit h
+  parts_start_bit : {parts : List ℕ} {o bit : ℕ} → PartsStart d parts o bit → bit ≤ 1
+  parts_start_bit h = parts_bit (Nullable d) (InEnds d) (InStart d) (λ i o bit first. start_bit first) h
 
-    parts_start_bit : {parts : List ℕ} {o bit : ℕ} → PartsStart d parts o bit → bit ≤ 1
-    parts_start_bit (starts_here h) = start_bit h
-    parts_start_bit (starts_later middle null ends h) = parts_start_bit h
+  -- and so is what may follow one
+  abbrev IsBitOrEnd : ℕ → ℕ → Option ℕ → Type 0
+  IsBitOrEnd i o s = (bit : ℕ) → s ≡ Some bit → bit ≤ 1
 
-  mutual
-    -- and so is what may follow one
-    pub follow_bit : {i o : ℕ} {s : Option ℕ} (bit : ℕ) → s ≡ Some bit → InFollow d i o s → bit ≤ 1
-    follow_bit bit is (follow_root root none) = absurd (cc)
-    follow_bit bit is (follow_part k n before after at parts h) = part_follow_bit bit is h
+  part_follow_bit : {n : Node} {k : ℕ} {after : List ℕ} {i o : ℕ} {s : Option ℕ} (bit : ℕ) → s ≡ Some bit
+      → reach.PartFollow (Nullable d) (InEnds d) (InStart d) (FollowWith d IsBitOrEnd) n k after i o s → bit ≤ 1
+  part_follow_bit b is (follow_later {bit = bit} h) = let same : bit ≡ b = cc in let small = parts_start_bit h in omega (arith, same, small)
+  part_follow_bit b is (follow_seq null h) = h.1 b is
+  part_follow_bit b is (follow_kept {bit = bit} h) = let same : bit ≡ b = cc in let small = parts_start_bit h in omega (arith, same, small)
+  part_follow_bit b is (follow_trunc h) = h.1 b is
+  part_follow_bit b is (follow_times_again {bit = bit} h) = let same : bit ≡ b = cc in let small = start_bit h in omega (arith, same, small)
+  part_follow_bit b is (follow_times h) = h.1 b is
+  part_follow_bit b is (follow_many_again {bit = bit} h) = let same : bit ≡ b = cc in let small = start_bit h in omega (arith, same, small)
+  part_follow_bit b is (follow_many h) = h.1 b is
+  part_follow_bit b is (follow_choice h) = h.1 b is
+  part_follow_bit b is (follow_named h) = h.1 b is
+  part_follow_bit b is (follow_window none) = absurd (cc)
 
-    part_follow_bit : {n : Node} {k : ℕ} {after : List ℕ} {i o : ℕ} {s : Option ℕ} (bit : ℕ) → s ≡ Some bit → PartFollow d n k after i o s → bit ≤ 1
-    part_follow_bit b is (follow_later {bit = bit} h) = let same : bit ≡ b = cc in let small = parts_start_bit h in omega (arith, same, small)
-    part_follow_bit b is (follow_seq null h) = follow_bit b is h
-    part_follow_bit b is (follow_kept {bit = bit} h) = let same : bit ≡ b = cc in let small = parts_start_bit h in omega (arith, same, small)
-    part_follow_bit b is (follow_trunc h) = follow_bit b is h
-    part_follow_bit b is (follow_times_again {bit = bit} h) = let same : bit ≡ b = cc in let small = start_bit h in omega (arith, same, small)
-    part_follow_bit b is (follow_times h) = follow_bit b is h
-    part_follow_bit b is (follow_many_again {bit = bit} h) = let same : bit ≡ b = cc in let small = start_bit h in omega (arith, same, small)
-    part_follow_bit b is (follow_many h) = follow_bit b is h
-    part_follow_bit b is (follow_choice h) = follow_bit b is h
-    part_follow_bit b is (follow_named h) = follow_bit b is h
-    part_follow_bit b is (follow_window none) = absurd (cc)
+  made_follow_bit : (i o : ℕ) (s : Option ℕ)
+      → ((i ≡ 0) × (s ≡ None)) ⊎ OfPart d i (λ k n after. reach.PartFollow (Nullable d) (InEnds d) (InStart d) (FollowWith d IsBitOrEnd) n k after i o s)
+      → IsBitOrEnd i o s
+  made_follow_bit i o s (inl root) bit is = let none = root.1 in absurd (cc)
+  made_follow_bit i o s (inr part) bit is = part_follow_bit bit is part.so
+
+  pub follow_bit : {i o : ℕ} {s : Option ℕ} (bit : ℕ) → s ≡ Some bit → InFollow d i o s → bit ≤ 1
+  follow_bit bit is h = each_follow IsBitOrEnd made_follow_bit h bit is
 
 -- ---- the signs that stand next
 

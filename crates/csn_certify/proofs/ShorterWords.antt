@@ -6,10 +6,12 @@ use Rattle.std.proofs.lemmas.List.{take-append-le}
 use Rattle.csn_desc.specs.declared.node.Node.{Node}
 use Rattle.csn_desc.specs.Nodes.{DescV}
 use Rattle.csn_look.specs.Keys.{Cut, kept, cut, InKeys, NodeKeys, PartsKeys, TimesKeys, HasEmptyKey, IsNotFirm}
-use Rattle.csn_look.specs.Keys.{keys_at, keys_lits, keys_spare, keys_field, keys_pad, keys_null, keys_rest, keys_many}
+use Rattle.csn_look.specs.Keys.{keys_lits, keys_spare, keys_field, keys_pad, keys_null, keys_rest, keys_many}
 use Rattle.csn_look.specs.Keys.{keys_trunc, keys_window, keys_counted_field, keys_counted_times, keys_seq, keys_times}
 use Rattle.csn_look.specs.Keys.{keys_choice, keys_named, parts_none, parts_cut, parts_whole, times_none, times_cut}
 use Rattle.csn_look.specs.Keys.{times_whole}
+use Rattle.csn_equations.specs.Keys as equation
+use Rattle.csn_look.proofs.Meaning.LeastSets.{keys_at, KeysWith, each_key}
 use Rattle.csn_certify.specs.declared.conflict.Conflict.{Conflict}
 use Rattle.csn_certify.specs.Conflicts.{IsConflict, IsBegunBy, two_empty, choice_not_firm, many_not_firm}
 use Rattle.csn_certify.specs.Conflicts.{times_not_firm, overlap, empty_clash, loop_clash, not_last}
@@ -129,52 +131,56 @@ cut_before {n} w1 w2 {z} long both =
 -- ---- keys
 
 module _ (d : DescV) (n m : ℕ) (less : n ≤ m) where
-  mutual
-    -- a key that is cut to a smaller length is a key of that length
-    pub key_cut : {i o : ℕ} {x z : List ℕ} {mark last : Bool} → InKeys d m i o x mark → Cut n x mark z last → InKeys d n i o z last
-    key_cut (keys_at node at h) c = keys_at node at (node_cut h c)
+  -- a key that is cut to a smaller length is a key of that length
+  abbrev KeyCut : ℕ → ℕ → List ℕ → Bool → Type 0
+  KeyCut i o x mark = (z : List ℕ) (last : Bool) → Cut n x mark z last → InKeys d n i o z last
 
-    node_cut : {node : Node} {o : ℕ} {x z : List ℕ} {mark last : Bool} → NodeKeys d m node o x mark → Cut n x mark z last → NodeKeys d n node o z last
-    node_cut (keys_lits h) c = keys_lits (cut_twice less h c)
-    node_cut (keys_spare w one spare h) c = keys_spare w one spare (cut_twice less h c)
-    node_cut (keys_field w wide bits h) c = keys_field w wide bits (cut_twice less h c)
-    node_cut (keys_pad w one spare h) c = keys_pad w one spare (cut_twice less h c)
-    node_cut (keys_null e f) c = let same = cut_none e c in keys_null same.0 (same.1 ∙ f)
-    node_cut (keys_rest e f) c = let same = cut_none e c in keys_rest same.0 (same.1 ∙ f)
-    node_cut (keys_many e f) c = let same = cut_none e c in keys_many same.0 (same.1 ∙ f)
-    node_cut (keys_trunc e f) c = let same = cut_none e c in keys_trunc same.0 (same.1 ∙ f)
-    node_cut (keys_window e f) c = let same = cut_none e c in keys_window same.0 (same.1 ∙ f)
-    node_cut (keys_counted_field e f) c = let same = cut_none e c in keys_counted_field same.0 (same.1 ∙ f)
-    node_cut (keys_counted_times e f) c = let same = cut_none e c in keys_counted_times same.0 (same.1 ∙ f)
-    node_cut (keys_seq h) c = keys_seq (parts_key_cut h c)
-    node_cut (keys_times h) c = keys_times (times_key_cut h c)
-    node_cut (keys_choice j at h) c = keys_choice j at (key_cut h c)
-    node_cut (keys_named h) c = keys_named (key_cut h c)
+  parts_key_cut : {parts : List ℕ} {o : ℕ} {x z : List ℕ} {mark last : Bool} → equation.PartsKeys m (KeysWith d m KeyCut) parts o x mark
+      → Cut n x mark z last → PartsKeys d n parts o z last
+  parts_key_cut (parts_none e f) c = let same = cut_none e c in parts_none same.0 (same.1 ∙ f)
+  parts_key_cut (parts_cut h f) c = let both = cut_false f c in parts_cut (h.1 _ _ both.1) both.0
+  parts_key_cut (parts_whole w1 w2 rest h hs both) c =
+      let second = cutting n w2 rest in
+      let all = cut_twice less both c in
+      elim (leb_tells (length w1) n) [
+        | inl short ↦ parts_whole w1 second.word second.mark (h.1 _ _ (kept short.1 refl refl))
+            (parts_key_cut hs second.is) (cut_behind w1 w2 second.word second.is all)
+        | inr long ↦ let front = cut_before w1 w2 long.1 all in parts_cut (h.1 _ _ front.1) front.0
+      ]
 
-    parts_key_cut : {parts : List ℕ} {o : ℕ} {x z : List ℕ} {mark last : Bool} → PartsKeys d m parts o x mark
-        → Cut n x mark z last → PartsKeys d n parts o z last
-    parts_key_cut (parts_none e f) c = let same = cut_none e c in parts_none same.0 (same.1 ∙ f)
-    parts_key_cut (parts_cut h f) c = let both = cut_false f c in parts_cut (key_cut h both.1) both.0
-    parts_key_cut (parts_whole w1 w2 rest h hs both) c =
-        let second = cutting n w2 rest in
-        let all = cut_twice less both c in
-        elim (leb_tells (length w1) n) [
-          | inl short ↦ parts_whole w1 second.word second.mark (key_cut h (kept short.1 refl refl))
-              (parts_key_cut hs second.is) (cut_behind w1 w2 second.word second.is all)
-          | inr long ↦ let front = cut_before w1 w2 long.1 all in parts_cut (key_cut h front.1) front.0
-        ]
+  times_key_cut : {k i o : ℕ} {x z : List ℕ} {mark last : Bool} → equation.TimesKeys m (KeysWith d m KeyCut) k i o x mark
+      → Cut n x mark z last → TimesKeys d n k i o z last
+  times_key_cut (times_none over e f) c = let same = cut_none e c in times_none over same.0 (same.1 ∙ f)
+  times_key_cut (times_cut l is h f) c = let both = cut_false f c in times_cut l is (h.1 _ _ both.1) both.0
+  times_key_cut (times_whole l is w1 w2 rest h hs both) c =
+      let second = cutting n w2 rest in
+      let all = cut_twice less both c in
+      elim (leb_tells (length w1) n) [
+        | inl short ↦ times_whole l is w1 second.word second.mark (h.1 _ _ (kept short.1 refl refl))
+            (times_key_cut hs second.is) (cut_behind w1 w2 second.word second.is all)
+        | inr long ↦ let front = cut_before w1 w2 long.1 all in times_cut l is (h.1 _ _ front.1) front.0
+      ]
 
-    times_key_cut : {k i o : ℕ} {x z : List ℕ} {mark last : Bool} → TimesKeys d m k i o x mark → Cut n x mark z last → TimesKeys d n k i o z last
-    times_key_cut (times_none over e f) c = let same = cut_none e c in times_none over same.0 (same.1 ∙ f)
-    times_key_cut (times_cut l is h f) c = let both = cut_false f c in times_cut l is (key_cut h both.1) both.0
-    times_key_cut (times_whole l is w1 w2 rest h hs both) c =
-        let second = cutting n w2 rest in
-        let all = cut_twice less both c in
-        elim (leb_tells (length w1) n) [
-          | inl short ↦ times_whole l is w1 second.word second.mark (key_cut h (kept short.1 refl refl))
-              (times_key_cut hs second.is) (cut_behind w1 w2 second.word second.is all)
-          | inr long ↦ let front = cut_before w1 w2 long.1 all in times_cut l is (key_cut h front.1) front.0
-        ]
+  node_cut : {node : Node} {o : ℕ} {x z : List ℕ} {mark last : Bool} → equation.NodeKeys d m (KeysWith d m KeyCut) node o x mark
+      → Cut n x mark z last → NodeKeys d n node o z last
+  node_cut (keys_lits h) c = keys_lits (cut_twice less h c)
+  node_cut (keys_spare w one spare h) c = keys_spare w one spare (cut_twice less h c)
+  node_cut (keys_field w wide bits h) c = keys_field w wide bits (cut_twice less h c)
+  node_cut (keys_pad w one spare h) c = keys_pad w one spare (cut_twice less h c)
+  node_cut (keys_null e f) c = let same = cut_none e c in keys_null same.0 (same.1 ∙ f)
+  node_cut (keys_rest e f) c = let same = cut_none e c in keys_rest same.0 (same.1 ∙ f)
+  node_cut (keys_many e f) c = let same = cut_none e c in keys_many same.0 (same.1 ∙ f)
+  node_cut (keys_trunc e f) c = let same = cut_none e c in keys_trunc same.0 (same.1 ∙ f)
+  node_cut (keys_window e f) c = let same = cut_none e c in keys_window same.0 (same.1 ∙ f)
+  node_cut (keys_counted_field e f) c = let same = cut_none e c in keys_counted_field same.0 (same.1 ∙ f)
+  node_cut (keys_counted_times e f) c = let same = cut_none e c in keys_counted_times same.0 (same.1 ∙ f)
+  node_cut (keys_seq h) c = keys_seq (parts_key_cut h c)
+  node_cut (keys_times h) c = keys_times (times_key_cut h c)
+  node_cut (keys_choice j at h) c = keys_choice j at (h.1 _ _ c)
+  node_cut (keys_named h) c = keys_named (h.1 _ _ c)
+
+  pub key_cut : {i o : ℕ} {x z : List ℕ} {mark last : Bool} → InKeys d m i o x mark → Cut n x mark z last → InKeys d n i o z last
+  key_cut h c = each_key KeyCut (λ i o x mark made z last shorter. keys_at made.node made.at (node_cut made.has shorter)) h _ _ c
 
   empty_cut : {i : ℕ} → HasEmptyKey d m i → HasEmptyKey d n i
   empty_cut h = (h.0, h.1, h.2, key_cut h.3 (kept (omega arith) refl refl))

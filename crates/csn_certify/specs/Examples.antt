@@ -6,8 +6,9 @@ use Rattle.csn_desc.specs.declared.symbol.Symbol.TheVariants.{Zero, One}
 use Rattle.csn_desc.specs.declared.node.Count.TheVariants.{Fixed}
 use Rattle.csn_desc.specs.declared.node.Node.TheVariants.{Lits, Field, Seq, Choice, Named}
 use Rattle.csn_desc.specs.Nodes.{DescV}
-use Rattle.csn_look.specs.Keys.{InKeys, keys_at, keys_lits, keys_seq, keys_named, keys_field, parts_whole, parts_none, kept}
+use Rattle.csn_look.specs.Keys.{InKeys, keys_lits, keys_seq, keys_named, keys_field, parts_whole, parts_none, kept}
 use Rattle.csn_look.specs.Reached.{reached_root}
+use Rattle.csn_look.proofs.Meaning.LeastSets.{keys_at}
 use Rattle.csn_certify.specs.declared.conflict.Conflict.TheVariants.{Overlap}
 use Rattle.csn_certify.specs.declared.pick.Pick.TheVariants.{Take, Wait}
 use Rattle.csn_certify.specs.Conflicts.{IsConflict, overlap, Certified}

@@ -9,11 +9,10 @@ use Rattle.csn_desc.proofs.Numbering.{parts_later}
 use Rattle.csn_cert.specs.declared.pattern.Mark.{Mark}
 use Rattle.csn_cert.specs.CertificateV.{NodeV}
 use Rattle.csn_claims.specs.Reached.{PartReached, PartFollow}
-use Rattle.csn_look.specs.Nullable as null
 use Rattle.csn_look.specs.Ends as end
-use Rattle.csn_look.specs.Starts as start
 use Rattle.csn_look.specs.Reached as reach
 use Rattle.csn_look.specs.Laws.{EndsAreOctets, ReachedAreOctets}
+use Rattle.csn_look.proofs.Meaning.LeastSets.{nullable_at, ends_at, starts_at, follow_root, follow_part}
 use Rattle.csn_look.proofs.Basics.Puts.{middle_get}
 use Rattle.csn_certify.specs.Conflicts.{Certified}
 use Rattle.csn_good.specs.ClaimedSets.{claims_of}
@@ -31,12 +30,12 @@ covers_itself (mark ∷ marks) = (inr refl, covers_itself marks)
 
 module _ (d : DescV) (c : List NodeV) (is : IsDescription d) (claims : ClaimsLookAhead d c) where
   keeps_nullable : (i : ℕ) (n : Node) → slice_get d.nodes i ≡ Some n → KeepsNullable d c i n
-  keeps_nullable i n at h = (claims.nullable i (slice_get_within d.nodes i n at)).1 (null.nullable_at n at (node_nullable d c claims h))
+  keeps_nullable i n at h = (claims.nullable i (slice_get_within d.nodes i n at)).1 (nullable_at n at (node_nullable d c claims h))
 
   keeps_ends : EndsAreOctets → (i : ℕ) (n : Node) → slice_get d.nodes i ≡ Some n → KeepsEnds d c i n
   keeps_ends octets i n at o p reached h =
       let known = known_at d c claims i o reached in
-      let ends : end.InEnds d i o p = end.ends_at n at (node_ends d c claims h) in
+      let ends : end.InEnds d i o p = ends_at n at (node_ends d c claims h) in
       let low = octets d i o p ends (omega (arith, known.low)) in
       (claims.ends i o p (slice_get_within d.nodes i n at) known.low (omega arith) known.reached).1 ends
 
@@ -44,7 +43,7 @@ module _ (d : DescV) (c : List NodeV) (is : IsDescription d) (claims : ClaimsLoo
   keeps_start i n at o bit reached h =
       let known = known_at d c claims i o reached in
       let one = node_starts_one d (claims_of c) (starts_small c) h in
-      (claims.start i o bit (slice_get_within d.nodes i n at) known.low one known.reached).1 (start.starts_at n at (node_starts d c claims h))
+      (claims.start i o bit (slice_get_within d.nodes i n at) known.low one known.reached).1 (starts_at n at (node_starts d c claims h))
 
   keeps_keys : (i : ℕ) (n : Node) → slice_get d.nodes i ≡ Some n → KeepsKeys d c i n
   keeps_keys i n at o p reached made =
@@ -80,7 +79,7 @@ module _ (d : DescV) (c : List NodeV) (is : IsDescription d) (claims : ClaimsLoo
       → IsTrue ((claims_of c).follow 0 o None)
   root_follow i n at root from o reached ends =
       let inside = slice_get_within d.nodes i n at in
-      follow_told d c claims 0 o None (omega arith) (ends_low d c claims 0 from o ends) no_sign (reach.follow_root refl refl)
+      follow_told d c claims 0 o None (omega arith) (ends_low d c claims 0 from o ends) no_sign (follow_root refl refl)
 
   keeps_follow : (i : ℕ) (n : Node) → slice_get d.nodes i ≡ Some n → KeepsFollow d c i n
   keeps_follow k n at = (root_follow k n at, part)
@@ -92,7 +91,7 @@ module _ (d : DescV) (c : List NodeV) (is : IsDescription d) (claims : ClaimsLoo
           let known = known_at d c claims i from reached in
           follow_told d c claims i o s (slice_get_within d.nodes i known.node known.there) (ends_low d c claims i from o ends)
           (part_follow_sign d c claims h)
-          (reach.follow_part k n before after at split (part_follow d c claims h))
+          (follow_part k n before after at split (part_follow d c claims h))
 
   pub good : EndsAreOctets → ReachedAreOctets → Certified d 12 → Good d c
   good ends reached certified =

@@ -16,6 +16,7 @@ use Rattle.csn_cert.specs.CertificateV.{NodeV, PositionV}
 use Rattle.csn_cert.specs.Growing.{claimed}
 use Rattle.csn_look.specs.Keys.{Cut, kept, InKeys, PartsKeys, TimesKeys, NodeKeys}
 use Rattle.csn_look.specs.Keys as key
+use Rattle.csn_look.proofs.Meaning.LeastSets.{keys_at}
 use Rattle.csn_good.specs.ClaimedSets.{denotes, patterns_of, patterns_at, claims_of}
 use Rattle.csn_good.specs.Patterns.{mark_of, PartsPatterns, TimesPatterns, NodePatterns, parts_none, parts_cut}
 use Rattle.csn_good.specs.Patterns.{parts_whole, times_none, times_cut, times_whole, patterns_lits, patterns_field}
@@ -121,7 +122,7 @@ module _ (d : DescV) (c : List NodeV) (is : IsDescription d) (claims : ClaimsLoo
       let at = known_at d c claims i o (has_claim (claimed c i o) p has) in
       let parts : PartsAreKeys d c (parts_of at.node) = parts_later d i at.node (AreKeys d c) is at.there
       (λ k later high. keyed left k (omega (arith, few, later))) in
-      key.keys_at at.node at.there (node_keyed d c x mark parts ((claims.patterns i o at.node p at.there at.low at.reached).0 has) said)
+      keys_at at.node at.there (node_keyed d c x mark parts ((claims.patterns i o at.node p at.there at.low at.reached).0 has) said)
 
   pub keys_known : (i o : ℕ) (x : List ℕ) (mark : Bool) → IsTrue ((claims_of c).keys i o x mark) → InKeys d 12 i o x mark
   keys_known i o x mark holds =

@@ -90,6 +90,20 @@ node_begun look reach row i old new nullable follow added is_nullable is_follow 
       claims = λ d o known low. absurd (omega arith);
     }
 
+-- each octet position was seen
+pub node_done : (look : LookV) (reach : ReachV) (row : List (List PatternV)) (i octet : ℕ) (old new : List NodeV)
+    → 8 ≤ octet → NodeSo look reach row i octet old new → AddsNode look reach row i old new
+node_done look reach row i octet old new all so =
+    record {
+      node = so.node;
+      added = so.added;
+      tells = λ d known. record {
+        nullable = so.nullable d known;
+        follow = so.follow d known;
+        claims = λ o low. so.claims d o known (omega (arith, all, low));
+      };
+    }
+
 pub node_there : (look : LookV) (reach : ReachV) (row : List (List PatternV)) (i octet : ℕ) (old new : List NodeV)
     → NodeSo look reach row i octet old new → 0 < length new
 node_there look reach row i octet old new so =

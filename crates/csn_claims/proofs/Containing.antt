@@ -13,14 +13,18 @@ use Rattle.csn_look.specs.Starts as start
 use Rattle.csn_look.specs.Keys as key
 use Rattle.csn_look.specs.Reached.{Reached}
 use Rattle.csn_look.specs.Reached as reach
+use Rattle.csn_equations.specs.Ends as equation
+use Rattle.csn_equations.specs.Starts as start_equation
+use Rattle.csn_equations.specs.Keys as key_equation
+use Rattle.csn_equations.proofs.NullableLate.{all_moved, node_moved}
+use Rattle.csn_equations.proofs.StartsLate.{parts_moved}
+use Rattle.csn_look.proofs.Meaning.LeastSets.{NullableWith, EndsWith, StartWith, KeysWith, each_nullable, each_ends}
+use Rattle.csn_look.proofs.Meaning.LeastSets.{each_start, each_key}
 use Rattle.csn_look.proofs.Meaning.ShapeFacts.{CountIs, NodeIs, Shaped}
 use Rattle.csn_look.proofs.Meaning.EndsFacts.{ends}
 use Rattle.csn_look.proofs.Meaning.KeyMeant.{key_meant}
 use Rattle.csn_claims.specs.Claims.{Claims}
-use Rattle.csn_claims.specs.Nullable.{NodeNullable, AllNullable, nullable_null, nullable_rest, nullable_many}
-use Rattle.csn_claims.specs.Nullable.{nullable_trunc, nullable_field, nullable_times, nullable_no_times}
-use Rattle.csn_claims.specs.Nullable.{nullable_window, nullable_seq, nullable_choice, nullable_named, all_end}
-use Rattle.csn_claims.specs.Nullable.{all_next}
+use Rattle.csn_claims.specs.Nullable.{AllNullable}
 use Rattle.csn_claims.specs.Ends.{NodeEnds, PartsEnd, TimesEnd, ManyEnd, LeadEnd, ends_lits, ends_spare, ends_null}
 use Rattle.csn_claims.specs.Ends.{ends_pad, ends_rest, ends_field, ends_window, ends_seq, ends_choice, ends_times}
 use Rattle.csn_claims.specs.Ends.{ends_counted, ends_many, ends_trunc, ends_named}
@@ -40,72 +44,76 @@ use Rattle.csn_claims.proofs.Reaching.{first_turn, later_turns, first_free, late
 use Rattle.csn_claims.proofs.Reaching.{choice_reached, window_reached, named_reached, free_reached, counted_reached}
 use Rattle.csn_claims.proofs.Reaching.{turns_reached}
 
+-- ---- where nodes may end
+
+module _ (d : DescV) (most : ℕ) (claims : Claims) (holds : Holds d most claims) (P : ℕ → ℕ → ℕ → Type 0)
+    (said : (i o p : ℕ) → P i o p → IsTrue (claims.reached i o) → IsTrue (claims.ends i o p)) where
+  parts_said : {parts : List ℕ} {o p : ℕ} → PartsReached claims parts o → equation.PartsEnd P parts o p → PartsEnd claims parts o p
+  parts_said reached (end.parts_end is) = claimed.parts_end is
+  parts_said reached (end.parts_next middle h others) =
+      let first = said _ _ _ h (first_part claims reached) in claimed.parts_next middle first (parts_said (later_parts claims reached first) others)
+
+  times_said : {n i o p : ℕ} → TurnsReached claims n i o → equation.TimesEnd P n i o p → TimesEnd claims n i o p
+  times_said reached (end.times_end over is) = claimed.times_end over is
+  times_said reached (end.times_next m middle over h others) =
+      let first = said _ _ _ h (first_turn claims (omega arith) reached) in
+      claimed.times_next m middle over first (times_said (later_turns claims over reached first) others)
+
+  many_said : {i o p : ℕ} → FreeReached claims i o → equation.ManyEnd P i o p → ManyEnd claims i o p
+  many_said reached (end.many_end is) = claimed.many_end is
+  many_said reached (end.many_next middle h others) =
+      let first = said _ _ _ h (first_free claims reached) in claimed.many_next middle first (many_said (later_free claims reached first) others)
+
+  lead_said : {parts : List ℕ} {o p : ℕ} → PartsReached claims parts o → equation.LeadEnd P parts o p → LeadEnd claims parts o p
+  lead_said reached (end.lead_end is) = claimed.lead_end is
+  lead_said reached (end.lead_next middle h others) =
+      let first = said _ _ _ h (first_part claims reached) in claimed.lead_next middle first (lead_said (later_parts claims reached first) others)
+
+  node_said : {n : Node} {i o p : ℕ} → slice_get d.nodes i ≡ Some n → IsTrue (claims.reached i o) → equation.NodeEnds d P n o p → NodeEnds d claims n o p
+  node_said at reached (end.ends_lits is) = ends_lits is
+  node_said at reached (end.ends_spare is) = ends_spare is
+  node_said at reached (end.ends_null is) = ends_null is
+  node_said at reached (end.ends_pad less) = ends_pad less
+  node_said at reached (end.ends_rest less) = ends_rest less
+  node_said at reached (end.ends_field n may is) = ends_field n may is
+  node_said at reached (end.ends_window n may is) = ends_window n may is
+  node_said at reached (end.ends_seq h) = ends_seq (parts_said (seq_reached d most claims holds at reached) h)
+  node_said at reached (end.ends_choice j part h) = ends_choice j part (said _ _ _ h (choice_reached d most claims holds j at part reached))
+  node_said at reached (end.ends_times h) = ends_times (times_said (turns_reached d most claims holds at reached) h)
+  node_said at reached (end.ends_counted h) = ends_counted (many_said (counted_reached d most claims holds at reached) h)
+  node_said at reached (end.ends_many h) = ends_many (many_said (free_reached d most claims holds at reached) h)
+  node_said at reached (end.ends_trunc h) = ends_trunc (lead_said (lead_reached d most claims holds at reached) h)
+  node_said at reached (end.ends_named h) = ends_named (said _ _ _ h (named_reached d most claims holds at reached))
+
 module _ (d : DescV) (most : ℕ) (claims : Claims) (holds : Holds d most claims) where
   -- ---- which nodes may have no bits
 
-  mutual
-    pub has_nullable : {i : ℕ} → null.Nullable d i → IsTrue (claims.nullable i)
-    has_nullable {i} (null.nullable_at n at h) = holds.nullable i n at (node_nullable h)
+  pub has_nullable : {i : ℕ} → null.Nullable d i → IsTrue (claims.nullable i)
+  has_nullable h =
+      each_nullable (λ i. IsTrue (claims.nullable i)) (λ i made. holds.nullable i made.node made.at
+      (node_moved (NullableWith d (λ j. IsTrue (claims.nullable j))) (λ j. IsTrue (claims.nullable j)) (λ j part. part.1) made.has)) h
 
-    node_nullable : {n : Node} → null.NodeNullable d n → NodeNullable claims n
-    node_nullable null.nullable_null = nullable_null
-    node_nullable null.nullable_rest = nullable_rest
-    node_nullable null.nullable_many = nullable_many
-    node_nullable null.nullable_trunc = nullable_trunc
-    node_nullable (null.nullable_field none) = nullable_field none
-    node_nullable (null.nullable_times h) = nullable_times (has_nullable h)
-    node_nullable (null.nullable_no_times none) = nullable_no_times none
-    node_nullable (null.nullable_window none h) = nullable_window none (has_nullable h)
-    node_nullable (null.nullable_seq all) = nullable_seq (all_nullable all)
-    node_nullable (null.nullable_choice j part h) = nullable_choice j part (has_nullable h)
-    node_nullable (null.nullable_named h) = nullable_named (has_nullable h)
-
-    pub all_nullable : {parts : List ℕ} → null.AllNullable d parts → AllNullable claims parts
-    all_nullable null.all_end = all_end
-    all_nullable (null.all_next h others) = all_next (has_nullable h) (all_nullable others)
+  pub all_nullable : {parts : List ℕ} → null.AllNullable d parts → AllNullable claims parts
+  all_nullable h = all_moved (null.Nullable d) (λ j. IsTrue (claims.nullable j)) (λ j part. has_nullable part) h
 
   -- ---- where they may end
 
-  mutual
-    pub has_ends : {i o p : ℕ} → IsTrue (claims.reached i o) → end.InEnds d i o p → IsTrue (claims.ends i o p)
-    has_ends {i} {o} {p} reached (end.ends_at n at h) = holds.ends i o p n at reached (node_ends at reached h)
+  abbrev EndsClaimed : ℕ → ℕ → ℕ → Type 0
+  EndsClaimed i o p = IsTrue (claims.reached i o) → IsTrue (claims.ends i o p)
 
-    node_ends : {n : Node} {i o p : ℕ} → slice_get d.nodes i ≡ Some n → IsTrue (claims.reached i o) → end.NodeEnds d n o p → NodeEnds d claims n o p
-    node_ends at reached (end.ends_lits is) = ends_lits is
-    node_ends at reached (end.ends_spare is) = ends_spare is
-    node_ends at reached (end.ends_null is) = ends_null is
-    node_ends at reached (end.ends_pad less) = ends_pad less
-    node_ends at reached (end.ends_rest less) = ends_rest less
-    node_ends at reached (end.ends_field n may is) = ends_field n may is
-    node_ends at reached (end.ends_window n may is) = ends_window n may is
-    node_ends at reached (end.ends_seq h) = ends_seq (parts_ends (seq_reached d most claims holds at reached) h)
-    node_ends at reached (end.ends_choice j part h) = ends_choice j part (has_ends (choice_reached d most claims holds j at part reached) h)
-    node_ends at reached (end.ends_times h) = ends_times (times_ends (turns_reached d most claims holds at reached) h)
-    node_ends at reached (end.ends_counted h) = ends_counted (many_ends (counted_reached d most claims holds at reached) h)
-    node_ends at reached (end.ends_many h) = ends_many (many_ends (free_reached d most claims holds at reached) h)
-    node_ends at reached (end.ends_trunc h) = ends_trunc (lead_ends (lead_reached d most claims holds at reached) h)
-    node_ends at reached (end.ends_named h) = ends_named (has_ends (named_reached d most claims holds at reached) h)
+  pub has_ends : {i o p : ℕ} → IsTrue (claims.reached i o) → end.InEnds d i o p → IsTrue (claims.ends i o p)
+  has_ends reached h =
+      each_ends EndsClaimed (λ i o p made here. holds.ends i o p made.node made.at here
+      (node_said d most claims holds (EndsWith d EndsClaimed) (λ j r s over. over.1) made.at here made.has)) h reached
 
-    parts_ends : {parts : List ℕ} {o p : ℕ} → PartsReached claims parts o → end.PartsEnd d parts o p → PartsEnd claims parts o p
-    parts_ends reached (end.parts_end is) = claimed.parts_end is
-    parts_ends reached (end.parts_next middle h others) =
-        let first = has_ends (first_part claims reached) h in claimed.parts_next middle first (parts_ends (later_parts claims reached first) others)
+  parts_ends : {parts : List ℕ} {o p : ℕ} → PartsReached claims parts o → end.PartsEnd d parts o p → PartsEnd claims parts o p
+  parts_ends reached h = parts_said d most claims holds (end.InEnds d) (λ i o p over here. has_ends here over) reached h
 
-    times_ends : {n i o p : ℕ} → TurnsReached claims n i o → end.TimesEnd d n i o p → TimesEnd claims n i o p
-    times_ends reached (end.times_end over is) = claimed.times_end over is
-    times_ends reached (end.times_next m middle over h others) =
-        let first = has_ends (first_turn claims (omega arith) reached) h in
-        claimed.times_next m middle over first (times_ends (later_turns claims over reached first) others)
+  times_ends : {n i o p : ℕ} → TurnsReached claims n i o → end.TimesEnd d n i o p → TimesEnd claims n i o p
+  times_ends reached h = times_said d most claims holds (end.InEnds d) (λ i o p over here. has_ends here over) reached h
 
-    pub many_ends : {i o p : ℕ} → FreeReached claims i o → end.ManyEnd d i o p → ManyEnd claims i o p
-    many_ends reached (end.many_end is) = claimed.many_end is
-    many_ends reached (end.many_next middle h others) =
-        let first = has_ends (first_free claims reached) h in claimed.many_next middle first (many_ends (later_free claims reached first) others)
-
-    lead_ends : {parts : List ℕ} {o p : ℕ} → PartsReached claims parts o → end.LeadEnd d parts o p → LeadEnd claims parts o p
-    lead_ends reached (end.lead_end is) = claimed.lead_end is
-    lead_ends reached (end.lead_next middle h others) =
-        let first = has_ends (first_part claims reached) h in claimed.lead_next middle first (lead_ends (later_parts claims reached first) others)
+  pub many_ends : {i o p : ℕ} → FreeReached claims i o → end.ManyEnd d i o p → ManyEnd claims i o p
+  many_ends reached h = many_said d most claims holds (end.InEnds d) (λ i o p over here. has_ends here over) reached h
 
   -- parts begin behind those before them
   pub parts_behind : {before rest : List ℕ} {from o : ℕ} → PartsReached claims (before ++ rest) from
@@ -160,30 +168,41 @@ module _ (d : DescV) (most : ℕ) (claims : Claims) (shaped : Shaped d) (holds :
   turn_begins (Fixed n) some at reached = first_turn claims some (turns_reached d most claims holds at reached)
   turn_begins (Counted m field c) is at reached = first_free claims (counted_reached d most claims holds at reached)
 
-  mutual
-    pub has_start : {i o bit : ℕ} → IsTrue (claims.reached i o) → start.InStart d i o bit → IsTrue (claims.starts i o bit)
-    has_start {i} {o} {bit} reached (start.starts_at n at h) = holds.starts i o bit n at reached (node_starts (shaped.node i n at) at reached h)
+  abbrev StartClaimed : ℕ → ℕ → ℕ → Type 0
+  StartClaimed i o bit = IsTrue (claims.reached i o) → IsTrue (claims.starts i o bit)
 
-    node_starts : {n : Node} {i o bit : ℕ} → NodeIs d.nodes n → slice_get d.nodes i ≡ Some n
-        → IsTrue (claims.reached i o) → start.NodeStarts d n o bit → NodeStarts d claims n o bit
-    node_starts is at reached (start.starts_lits same) = starts_lits same
-    node_starts is at reached (start.starts_spare h) = starts_spare h
-    node_starts is at reached (start.starts_pad h) = starts_pad h
-    node_starts is at reached (start.starts_field low) = starts_field low
-    node_starts is at reached (start.starts_rest low) = starts_rest low
-    node_starts is at reached (start.starts_seq h) = starts_seq (has_parts_start (seq_reached d most claims holds at reached) h)
-    node_starts is at reached (start.starts_trunc h) = starts_trunc (has_parts_start (lead_reached d most claims holds at reached) h)
-    node_starts is at reached (start.starts_choice j part h) = starts_choice j part (has_start (choice_reached d most claims holds j at part reached) h)
-    node_starts is at reached (start.starts_times {count = count} h) = starts_times (has_start (turn_begins count is at reached) h)
-    node_starts is at reached (start.starts_many h) = starts_many (has_start (first_free claims (free_reached d most claims holds at reached)) h)
-    node_starts is at reached (start.starts_window h) = starts_window (has_start (window_reached d most claims holds at reached) h)
-    node_starts is at reached (start.starts_named h) = starts_named (has_start (named_reached d most claims holds at reached) h)
+  begins_claimed : {parts : List ℕ} {o bit : ℕ} → PartsReached claims parts o
+      → start_equation.PartsStart (null.Nullable d) (end.InEnds d) (StartWith d StartClaimed) parts o bit → PartsStart claims parts o bit
+  begins_claimed reached (start.starts_here h) = starts_here (h.1 (first_part claims reached))
+  begins_claimed reached (start.starts_later middle none h others) =
+      let first = has_ends d most claims holds (first_part claims reached) h in
+      starts_later middle (has_nullable d most claims holds none) first (begins_claimed (later_parts claims reached first) others)
 
-    pub has_parts_start : {parts : List ℕ} {o bit : ℕ} → PartsReached claims parts o → start.PartsStart d parts o bit → PartsStart claims parts o bit
-    has_parts_start reached (start.starts_here h) = starts_here (has_start (first_part claims reached) h)
-    has_parts_start reached (start.starts_later middle none h others) =
-        let first = has_ends d most claims holds (first_part claims reached) h in
-        starts_later middle (has_nullable d most claims holds none) first (has_parts_start (later_parts claims reached first) others)
+  node_starts : {n : Node} {i o bit : ℕ} → NodeIs d.nodes n → slice_get d.nodes i ≡ Some n
+      → IsTrue (claims.reached i o) → start_equation.NodeStarts d (null.Nullable d) (end.InEnds d) (StartWith d StartClaimed) n o bit
+      → NodeStarts d claims n o bit
+  node_starts is at reached (start.starts_lits same) = starts_lits same
+  node_starts is at reached (start.starts_spare h) = starts_spare h
+  node_starts is at reached (start.starts_pad h) = starts_pad h
+  node_starts is at reached (start.starts_field low) = starts_field low
+  node_starts is at reached (start.starts_rest low) = starts_rest low
+  node_starts is at reached (start.starts_seq h) = starts_seq (begins_claimed (seq_reached d most claims holds at reached) h)
+  node_starts is at reached (start.starts_trunc h) = starts_trunc (begins_claimed (lead_reached d most claims holds at reached) h)
+  node_starts is at reached (start.starts_choice j part h) = starts_choice j part (h.1 (choice_reached d most claims holds j at part reached))
+  node_starts is at reached (start.starts_times {count = count} h) = starts_times (h.1 (turn_begins count is at reached))
+  node_starts is at reached (start.starts_many h) = starts_many (h.1 (first_free claims (free_reached d most claims holds at reached)))
+  node_starts is at reached (start.starts_window h) = starts_window (h.1 (window_reached d most claims holds at reached))
+  node_starts is at reached (start.starts_named h) = starts_named (h.1 (named_reached d most claims holds at reached))
+
+  pub has_start : {i o bit : ℕ} → IsTrue (claims.reached i o) → start.InStart d i o bit → IsTrue (claims.starts i o bit)
+  has_start reached h =
+      each_start StartClaimed (λ i o bit made here. holds.starts i o bit made.node made.at here
+      (node_starts (shaped.node i made.node made.at) made.at here made.has)) h reached
+
+  pub has_parts_start : {parts : List ℕ} {o bit : ℕ} → PartsReached claims parts o → start.PartsStart d parts o bit → PartsStart claims parts o bit
+  has_parts_start reached h =
+      begins_claimed reached (parts_moved (null.Nullable d) (null.Nullable d) (end.InEnds d) (end.InEnds d) (start.InStart d)
+      (StartWith d StartClaimed) (λ i none. none) (λ i o p over. over) (λ i o bit first. (first, λ here. has_start here first)) h)
 
   -- ---- their keys
 
@@ -195,42 +214,46 @@ module _ (d : DescV) (most : ℕ) (claims : Claims) (shaped : Shaped d) (holds :
       let P : ℕ → Type 0 = λ q. end.InEnds d i q ((o + length w) % 8) in
       has_ends d most claims holds reached (subst P (sym octet) (ends d shaped (o + length w) refl shaped.none_fit meant.1))
 
-  mutual
-    pub has_key : {i o : ℕ} {x : List ℕ} {mark : Bool} → o < 8 → IsTrue (claims.reached i o) → key.InKeys d most i o x mark → IsTrue (claims.keys i o x mark)
-    has_key {i} {o} {x} {mark} low reached (key.keys_at n at h) = holds.keys i o x mark n at reached (node_keys low at reached h)
+  abbrev KeyClaimed : ℕ → ℕ → List ℕ → Bool → Type 0
+  KeyClaimed i o x mark = o < 8 → IsTrue (claims.reached i o) → IsTrue (claims.keys i o x mark)
 
-    node_keys : {n : Node} {i o : ℕ} {x : List ℕ} {mark : Bool} → o < 8 → slice_get d.nodes i ≡ Some n
-        → IsTrue (claims.reached i o) → key.NodeKeys d most n o x mark → NodeKeys d most claims n o x mark
-    node_keys low at reached (key.keys_lits c) = keys_lits c
-    node_keys low at reached (key.keys_spare w one spare c) = keys_spare w one spare c
-    node_keys low at reached (key.keys_field w wide are c) = keys_field w wide are c
-    node_keys low at reached (key.keys_pad w one spare c) = keys_pad w one spare c
-    node_keys low at reached (key.keys_null is mark) = keys_null is mark
-    node_keys low at reached (key.keys_rest is mark) = keys_rest is mark
-    node_keys low at reached (key.keys_many is mark) = keys_many is mark
-    node_keys low at reached (key.keys_trunc is mark) = keys_trunc is mark
-    node_keys low at reached (key.keys_window is mark) = keys_window is mark
-    node_keys low at reached (key.keys_counted_field is mark) = keys_counted_field is mark
-    node_keys low at reached (key.keys_counted_times is mark) = keys_counted_times is mark
-    node_keys low at reached (key.keys_seq h) = keys_seq (parts_keys low (seq_reached d most claims holds at reached) h)
-    node_keys low at reached (key.keys_times h) = keys_times (times_keys low (turns_reached d most claims holds at reached) h)
-    node_keys low at reached (key.keys_choice j part h) = keys_choice j part (has_key low (choice_reached d most claims holds j at part reached) h)
-    node_keys low at reached (key.keys_named h) = keys_named (has_key low (named_reached d most claims holds at reached) h)
+  parts_keys : {parts : List ℕ} {o : ℕ} {x : List ℕ} {mark : Bool} → o < 8 → PartsReached claims parts o
+      → key_equation.PartsKeys most (KeysWith d most KeyClaimed) parts o x mark → PartsKeys most claims parts o x mark
+  parts_keys low reached (key.parts_none is mark) = parts_none is mark
+  parts_keys low reached (key.parts_cut h mark) = parts_cut (h.1 low (first_part claims reached)) mark
+  parts_keys low reached (key.parts_whole w1 w2 rest h others c) =
+      let here = first_part claims reached in
+      let later = later_parts claims reached (key_ends low here h.0) in
+      parts_whole w1 w2 rest (h.1 low here) (parts_keys (omega arith) later others) c
 
-    parts_keys : {parts : List ℕ} {o : ℕ} {x : List ℕ} {mark : Bool} → o < 8 → PartsReached claims parts o
-        → key.PartsKeys d most parts o x mark → PartsKeys most claims parts o x mark
-    parts_keys low reached (key.parts_none is mark) = parts_none is mark
-    parts_keys low reached (key.parts_cut h mark) = parts_cut (has_key low (first_part claims reached) h) mark
-    parts_keys low reached (key.parts_whole w1 w2 rest h others c) =
-        let here = first_part claims reached in
-        let later = later_parts claims reached (key_ends low here h) in
-        parts_whole w1 w2 rest (has_key low here h) (parts_keys (omega arith) later others) c
+  times_keys : {n i o : ℕ} {x : List ℕ} {mark : Bool} → o < 8 → TurnsReached claims n i o
+      → key_equation.TimesKeys most (KeysWith d most KeyClaimed) n i o x mark → TimesKeys most claims n i o x mark
+  times_keys low reached (key.times_none over is mark) = times_none over is mark
+  times_keys low reached (key.times_cut m over h mark) = times_cut m over (h.1 low (first_turn claims (omega arith) reached)) mark
+  times_keys low reached (key.times_whole m over w1 w2 rest h others c) =
+      let here = first_turn claims (omega arith) reached in
+      let later = later_turns claims over reached (key_ends low here h.0) in
+      times_whole m over w1 w2 rest (h.1 low here) (times_keys (omega arith) later others) c
 
-    times_keys : {n i o : ℕ} {x : List ℕ} {mark : Bool} → o < 8 → TurnsReached claims n i o
-        → key.TimesKeys d most n i o x mark → TimesKeys most claims n i o x mark
-    times_keys low reached (key.times_none over is mark) = times_none over is mark
-    times_keys low reached (key.times_cut m over h mark) = times_cut m over (has_key low (first_turn claims (omega arith) reached) h) mark
-    times_keys low reached (key.times_whole m over w1 w2 rest h others c) =
-        let here = first_turn claims (omega arith) reached in
-        let later = later_turns claims over reached (key_ends low here h) in
-        times_whole m over w1 w2 rest (has_key low here h) (times_keys (omega arith) later others) c
+  node_keys : {n : Node} {i o : ℕ} {x : List ℕ} {mark : Bool} → o < 8 → slice_get d.nodes i ≡ Some n
+      → IsTrue (claims.reached i o) → key_equation.NodeKeys d most (KeysWith d most KeyClaimed) n o x mark → NodeKeys d most claims n o x mark
+  node_keys low at reached (key.keys_lits c) = keys_lits c
+  node_keys low at reached (key.keys_spare w one spare c) = keys_spare w one spare c
+  node_keys low at reached (key.keys_field w wide are c) = keys_field w wide are c
+  node_keys low at reached (key.keys_pad w one spare c) = keys_pad w one spare c
+  node_keys low at reached (key.keys_null is mark) = keys_null is mark
+  node_keys low at reached (key.keys_rest is mark) = keys_rest is mark
+  node_keys low at reached (key.keys_many is mark) = keys_many is mark
+  node_keys low at reached (key.keys_trunc is mark) = keys_trunc is mark
+  node_keys low at reached (key.keys_window is mark) = keys_window is mark
+  node_keys low at reached (key.keys_counted_field is mark) = keys_counted_field is mark
+  node_keys low at reached (key.keys_counted_times is mark) = keys_counted_times is mark
+  node_keys low at reached (key.keys_seq h) = keys_seq (parts_keys low (seq_reached d most claims holds at reached) h)
+  node_keys low at reached (key.keys_times h) = keys_times (times_keys low (turns_reached d most claims holds at reached) h)
+  node_keys low at reached (key.keys_choice j part h) = keys_choice j part (h.1 low (choice_reached d most claims holds j at part reached))
+  node_keys low at reached (key.keys_named h) = keys_named (h.1 low (named_reached d most claims holds at reached))
+
+  pub has_key : {i o : ℕ} {x : List ℕ} {mark : Bool} → o < 8 → IsTrue (claims.reached i o) → key.InKeys d most i o x mark → IsTrue (claims.keys i o x mark)
+  has_key low reached h =
+      each_key KeyClaimed (λ i o x mark made small here. holds.keys i o x mark made.node made.at here
+      (node_keys small made.at here made.has)) h low reached

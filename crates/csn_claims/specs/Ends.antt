@@ -1,70 +1,27 @@
--- Where bits of a node may end, from where those of its parts are claimed to. (This project's own choice.)
-use Rattle.std.specs.Prelude.{◌≡◌, ℕ, suc, ◌+◌, ◌*◌, ◌%◌, ◌<◌, List, [], ◌∷◌, length, slice_get, Some, IsTrue}
-use Rattle.csn_desc.specs.declared.symbol.Symbol.{Symbol}
-use Rattle.csn_desc.specs.declared.node.Count.{Count}
-use Rattle.csn_desc.specs.declared.node.Count.TheVariants.{Fixed, Counted}
+-- Where bits of a node may end, from where those of its parts are claimed to.
+use Rattle.std.specs.Prelude.{ℕ, List, IsTrue}
 use Rattle.csn_desc.specs.declared.node.Node.{Node}
-use Rattle.csn_desc.specs.declared.node.Node.TheVariants.{Lits, Spare, Pad, Null, Field, Rest, Seq, Choice, Times, Many, Trunc, Window, Named}
 use Rattle.csn_desc.specs.Nodes.{DescV}
-use Rattle.csn_look.specs.Ends.{MayCount}
+use Rattle.csn_equations.specs.Ends as equation
+pub use Rattle.csn_equations.specs.Ends.{MayCount, may_fixed, may_counted, parts_end, parts_next, times_end}
+pub use Rattle.csn_equations.specs.Ends.{times_next, many_end, many_next, lead_end, lead_next, ends_lits, ends_spare}
+pub use Rattle.csn_equations.specs.Ends.{ends_null, ends_pad, ends_rest, ends_field, ends_window, ends_seq}
+pub use Rattle.csn_equations.specs.Ends.{ends_choice, ends_times, ends_counted, ends_many, ends_trunc, ends_named}
 use Rattle.csn_claims.specs.Claims.{Claims}
 
 module _ (claims : Claims) where
-  -- one part after another
-  pub data PartsEnd : List ℕ → ℕ → ℕ → Type 0 where
-    parts_end : {o p : ℕ} → p ≡ o → PartsEnd [] o p
-    parts_next :
-        {i : ℕ} {parts : List ℕ} {o p : ℕ}
-        (middle : ℕ) → IsTrue (claims.ends i o middle) → PartsEnd parts middle p
-        → PartsEnd (i ∷ parts) o p
+  abbrev pub PartsEnd : List ℕ → ℕ → ℕ → Type 0
+  PartsEnd parts o p = equation.PartsEnd (λ i o p. IsTrue (claims.ends i o p)) parts o p
 
-  -- n times the part i
-  pub data TimesEnd : ℕ → ℕ → ℕ → ℕ → Type 0 where
-    times_end : {n i o p : ℕ} → n ≡ 0 → p ≡ o → TimesEnd n i o p
-    times_next :
-        {n i o p : ℕ}
-        (m middle : ℕ) → n ≡ suc m → IsTrue (claims.ends i o middle) → TimesEnd m i middle p
-        → TimesEnd n i o p
+  abbrev pub TimesEnd : ℕ → ℕ → ℕ → ℕ → Type 0
+  TimesEnd n i o p = equation.TimesEnd (λ i o p. IsTrue (claims.ends i o p)) n i o p
 
-  -- any number of times the part i
-  pub data ManyEnd : ℕ → ℕ → ℕ → Type 0 where
-    many_end : {i o p : ℕ} → p ≡ o → ManyEnd i o p
-    many_next : {i o p : ℕ} (middle : ℕ) → IsTrue (claims.ends i o middle) → ManyEnd i middle p → ManyEnd i o p
+  abbrev pub ManyEnd : ℕ → ℕ → ℕ → Type 0
+  ManyEnd i o p = equation.ManyEnd (λ i o p. IsTrue (claims.ends i o p)) i o p
 
-  -- the first few parts, also none
-  pub data LeadEnd : List ℕ → ℕ → ℕ → Type 0 where
-    lead_end : {parts : List ℕ} {o p : ℕ} → p ≡ o → LeadEnd parts o p
-    lead_next :
-        {i : ℕ} {parts : List ℕ} {o p : ℕ}
-        (middle : ℕ) → IsTrue (claims.ends i o middle) → LeadEnd parts middle p
-        → LeadEnd (i ∷ parts) o p
+  abbrev pub LeadEnd : List ℕ → ℕ → ℕ → Type 0
+  LeadEnd parts o p = equation.LeadEnd (λ i o p. IsTrue (claims.ends i o p)) parts o p
 
 module _ (d : DescV) (claims : Claims) where
-  -- bits of the node from the octet position o on may end at the octet position p
-  pub data NodeEnds : Node → ℕ → ℕ → Type 0 where
-    ends_lits : {run : List Symbol} {o p : ℕ} → p ≡ (o + length run) % 8 → NodeEnds (Lits run) o p
-    ends_spare : {s : Symbol} {o p : ℕ} → p ≡ (o + 1) % 8 → NodeEnds (Spare s) o p
-    ends_null : {o p : ℕ} → p ≡ o → NodeEnds Null o p
-    -- padding and a rest end anywhere
-    ends_pad : {o p : ℕ} → p < 8 → NodeEnds Pad o p
-    ends_rest : {o p : ℕ} → p < 8 → NodeEnds Rest o p
-    -- a field and a window have as many bits as they may count
-    ends_field :
-        {unit : ℕ} {count : Count} {o p : ℕ}
-        (n : ℕ) → MayCount d count n → p ≡ (o + unit * n) % 8
-        → NodeEnds (Field unit count) o p
-    ends_window :
-        {unit : ℕ} {count : Count} {i o p : ℕ}
-        (n : ℕ) → MayCount d count n → p ≡ (o + unit * n) % 8
-        → NodeEnds (Window unit count i) o p
-    ends_seq : {parts : List ℕ} {o p : ℕ} → PartsEnd claims parts o p → NodeEnds (Seq parts) o p
-    ends_choice :
-        {parts : List ℕ} {i o p : ℕ}
-        (j : ℕ) → slice_get parts j ≡ Some i → IsTrue (claims.ends i o p)
-        → NodeEnds (Choice parts) o p
-    -- a constant number of times, and any number of times where it is counted or free
-    ends_times : {n i o p : ℕ} → TimesEnd claims n i o p → NodeEnds (Times (Fixed n) i) o p
-    ends_counted : {m field c i o p : ℕ} → ManyEnd claims i o p → NodeEnds (Times (Counted m field c) i) o p
-    ends_many : {i o p : ℕ} → ManyEnd claims i o p → NodeEnds (Many i) o p
-    ends_trunc : {parts : List ℕ} {o p : ℕ} → LeadEnd claims parts o p → NodeEnds (Trunc parts) o p
-    ends_named : {label : List ℕ} {i o p : ℕ} → IsTrue (claims.ends i o p) → NodeEnds (Named label i) o p
+  abbrev pub NodeEnds : Node → ℕ → ℕ → Type 0
+  NodeEnds n o p = equation.NodeEnds d (λ i o p. IsTrue (claims.ends i o p)) n o p

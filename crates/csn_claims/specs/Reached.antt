@@ -1,102 +1,20 @@
 -- Where a part of a node may begin, and what may stand behind it, from what is claimed of the node and of its other
--- parts. (This project's own choice.)
-use Rattle.std.specs.Prelude.{◌≡◌, ℕ, ◌<◌, List, Option, Some, None, IsTrue}
-use Rattle.csn_desc.specs.declared.node.Count.{Count}
-use Rattle.csn_desc.specs.declared.node.Count.TheVariants.{Fixed, Counted}
+-- parts.
+use Rattle.std.specs.Prelude.{ℕ, List, Option, IsTrue}
 use Rattle.csn_desc.specs.declared.node.Node.{Node}
-use Rattle.csn_desc.specs.declared.node.Node.TheVariants.{Seq, Choice, Times, Many, Trunc, Window, Named}
+use Rattle.csn_equations.specs.Reached as equation
+pub use Rattle.csn_equations.specs.Reached.{reached_seq, reached_trunc, reached_choice, reached_window, reached_named}
+pub use Rattle.csn_equations.specs.Reached.{reached_times, reached_counted, reached_many, follow_later, follow_seq}
+pub use Rattle.csn_equations.specs.Reached.{follow_kept, follow_trunc, follow_times_again, follow_times}
+pub use Rattle.csn_equations.specs.Reached.{follow_many_again, follow_many, follow_choice, follow_named}
+pub use Rattle.csn_equations.specs.Reached.{follow_window}
 use Rattle.csn_claims.specs.Claims.{Claims}
-use Rattle.csn_claims.specs.Nullable.{AllNullable}
-use Rattle.csn_claims.specs.Ends.{PartsEnd, TimesEnd, ManyEnd}
-use Rattle.csn_claims.specs.Starts.{PartsStart}
 
 module _ (claims : Claims) where
-  -- a part i with these parts before it, of a node that begins at one octet position, may begin at another
-  pub data PartReached : Node → List ℕ → ℕ → ℕ → ℕ → Type 0 where
-    -- where the parts before it may end
-    reached_seq :
-        {parts before : List ℕ} {i from o : ℕ}
-        → PartsEnd claims before from o
-        → PartReached (Seq parts) before i from o
-    reached_trunc :
-        {parts before : List ℕ} {i from o : ℕ}
-        → PartsEnd claims before from o
-        → PartReached (Trunc parts) before i from o
-    -- where the node begins
-    reached_choice : {parts before : List ℕ} {i from o : ℕ} → o ≡ from → PartReached (Choice parts) before i from o
-    reached_window :
-        {unit : ℕ} {count : Count} {part : ℕ} {before : List ℕ} {i from o : ℕ}
-        → o ≡ from
-        → PartReached (Window unit count part) before i from o
-    reached_named :
-        {label : List ℕ} {part : ℕ} {before : List ℕ} {i from o : ℕ}
-        → o ≡ from
-        → PartReached (Named label part) before i from o
-    -- where a repetition may begin: after fewer than all of a constant number of times, and after any
-    -- number of times where it is counted or free
-    reached_times :
-        {n part : ℕ} {before : List ℕ} {i from o : ℕ}
-        (m : ℕ) → m < n → TimesEnd claims m i from o
-        → PartReached (Times (Fixed n) part) before i from o
-    reached_counted :
-        {m field c part : ℕ} {before : List ℕ} {i from o : ℕ}
-        → ManyEnd claims i from o
-        → PartReached (Times (Counted m field c) part) before i from o
-    reached_many :
-        {part : ℕ} {before : List ℕ} {i from o : ℕ}
-        → ManyEnd claims i from o
-        → PartReached (Many part) before i from o
+  abbrev pub PartReached : Node → List ℕ → ℕ → ℕ → ℕ → Type 0
+  PartReached n before i from o = equation.PartReached (λ i o p. IsTrue (claims.ends i o p)) n before i from o
 
-  -- what may stand behind a part i of the node with the number k, with these parts after it: where the part
-  -- ends at the octet position o, a bit, or nothing, which is the end
-  pub data PartFollow : Node → ℕ → List ℕ → ℕ → ℕ → Option ℕ → Type 0 where
-    -- in a sequence: what the later parts may begin with, and what may follow the sequence where these
-    -- are all nullable
-    follow_later :
-        {parts after : List ℕ} {k i o bit : ℕ}
-        → PartsStart claims after o bit
-        → PartFollow (Seq parts) k after i o (Some bit)
-    follow_seq :
-        {parts after : List ℕ} {k i o : ℕ} {s : Option ℕ}
-        → AllNullable claims after → IsTrue (claims.follow k o s)
-        → PartFollow (Seq parts) k after i o s
-    -- in a truncation: the same, where the later parts may also be cut off
-    follow_kept :
-        {parts after : List ℕ} {k i o bit : ℕ}
-        → PartsStart claims after o bit
-        → PartFollow (Trunc parts) k after i o (Some bit)
-    follow_trunc :
-        {parts after : List ℕ} {k i o : ℕ} {s : Option ℕ}
-        → IsTrue (claims.follow k o s)
-        → PartFollow (Trunc parts) k after i o s
-    -- in a repetition: the part again, and what may follow the repetition
-    follow_times_again :
-        {count : Count} {part : ℕ} {after : List ℕ} {k i o bit : ℕ}
-        → IsTrue (claims.starts i o bit)
-        → PartFollow (Times count part) k after i o (Some bit)
-    follow_times :
-        {count : Count} {part : ℕ} {after : List ℕ} {k i o : ℕ} {s : Option ℕ}
-        → IsTrue (claims.follow k o s)
-        → PartFollow (Times count part) k after i o s
-    follow_many_again :
-        {part : ℕ} {after : List ℕ} {k i o bit : ℕ}
-        → IsTrue (claims.starts i o bit)
-        → PartFollow (Many part) k after i o (Some bit)
-    follow_many :
-        {part : ℕ} {after : List ℕ} {k i o : ℕ} {s : Option ℕ}
-        → IsTrue (claims.follow k o s)
-        → PartFollow (Many part) k after i o s
-    -- what may follow the node
-    follow_choice :
-        {parts after : List ℕ} {k i o : ℕ} {s : Option ℕ}
-        → IsTrue (claims.follow k o s)
-        → PartFollow (Choice parts) k after i o s
-    follow_named :
-        {label : List ℕ} {part : ℕ} {after : List ℕ} {k i o : ℕ} {s : Option ℕ}
-        → IsTrue (claims.follow k o s)
-        → PartFollow (Named label part) k after i o s
-    -- in a window: nothing
-    follow_window :
-        {unit : ℕ} {count : Count} {part : ℕ} {after : List ℕ} {k i o : ℕ} {s : Option ℕ}
-        → s ≡ None
-        → PartFollow (Window unit count part) k after i o s
+  abbrev pub PartFollow : Node → ℕ → List ℕ → ℕ → ℕ → Option ℕ → Type 0
+  PartFollow n k after i o s =
+      equation.PartFollow (λ i. IsTrue (claims.nullable i)) (λ i o p. IsTrue (claims.ends i o p)) (λ i o bit. IsTrue (claims.starts i o bit))
+      (λ i o s. IsTrue (claims.follow i o s)) n k after i o s

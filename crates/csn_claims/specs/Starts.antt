@@ -1,54 +1,19 @@
--- Which bits a node may begin with, from those that its parts are claimed to begin with. (This project's own choice.)
-use Rattle.std.specs.Prelude.{◌≡◌, ℕ, ◌≤◌, List, [], ◌∷◌, slice_get, Some, IsTrue}
-use Rattle.csn_desc.specs.declared.symbol.Symbol.{Symbol}
-use Rattle.csn_desc.specs.declared.symbol.Symbol.TheVariants.{Low}
-use Rattle.csn_desc.specs.declared.node.Count.{Count}
+-- Which bits a node may begin with, from those that its parts are claimed to begin with.
+use Rattle.std.specs.Prelude.{ℕ, List, IsTrue}
 use Rattle.csn_desc.specs.declared.node.Node.{Node}
-use Rattle.csn_desc.specs.declared.node.Node.TheVariants.{Lits, Spare, Pad, Field, Rest, Seq, Choice, Times, Many, Trunc, Window, Named}
 use Rattle.csn_desc.specs.Nodes.{DescV}
-use Rattle.csn_desc.specs.Spelled.{symbol_bit, IsSpare}
+use Rattle.csn_equations.specs.Starts as equation
+pub use Rattle.csn_equations.specs.Starts.{starts_here, starts_later, starts_lits, starts_spare, starts_pad}
+pub use Rattle.csn_equations.specs.Starts.{starts_field, starts_rest, starts_seq, starts_trunc, starts_choice}
+pub use Rattle.csn_equations.specs.Starts.{starts_times, starts_many, starts_window, starts_named}
 use Rattle.csn_claims.specs.Claims.{Claims}
 
 module _ (claims : Claims) where
-  -- some part may begin with the bit where all parts before it are nullable and can end
-  pub data PartsStart : List ℕ → ℕ → ℕ → Type 0 where
-    starts_here :
-        {i : ℕ} {parts : List ℕ} {o bit : ℕ}
-        → IsTrue (claims.starts i o bit)
-        → PartsStart (i ∷ parts) o bit
-    starts_later :
-        {i : ℕ} {parts : List ℕ} {o bit : ℕ}
-        (middle : ℕ) → IsTrue (claims.nullable i) → IsTrue (claims.ends i o middle) → PartsStart parts middle bit
-        → PartsStart (i ∷ parts) o bit
+  abbrev pub PartsStart : List ℕ → ℕ → ℕ → Type 0
+  PartsStart parts o bit =
+      equation.PartsStart (λ i. IsTrue (claims.nullable i)) (λ i o p. IsTrue (claims.ends i o p)) (λ i o bit. IsTrue (claims.starts i o bit)) parts o bit
 
 module _ (d : DescV) (claims : Claims) where
-  -- the node may begin with the bit at the octet position o
-  pub data NodeStarts : Node → ℕ → ℕ → Type 0 where
-    -- a literal with its first bit
-    starts_lits :
-        {s : Symbol} {run : List Symbol} {o bit : ℕ}
-        → bit ≡ symbol_bit s o
-        → NodeStarts (Lits (s ∷ run)) o bit
-    -- a spare part with a bit that it takes: any where it is received, and its own where it is sent
-    starts_spare :
-        {s : Symbol} {o bit : ℕ}
-        → IsSpare d.reading s o (bit ∷ [])
-        → NodeStarts (Spare s) o bit
-    starts_pad : {o bit : ℕ} → IsSpare d.reading Low o (bit ∷ []) → NodeStarts Pad o bit
-    -- a field and a rest with any bit
-    starts_field : {unit : ℕ} {count : Count} {o bit : ℕ} → bit ≤ 1 → NodeStarts (Field unit count) o bit
-    starts_rest : {o bit : ℕ} → bit ≤ 1 → NodeStarts Rest o bit
-    starts_seq : {parts : List ℕ} {o bit : ℕ} → PartsStart claims parts o bit → NodeStarts (Seq parts) o bit
-    starts_trunc : {parts : List ℕ} {o bit : ℕ} → PartsStart claims parts o bit → NodeStarts (Trunc parts) o bit
-    -- and the others as a part of them does
-    starts_choice :
-        {parts : List ℕ} {i o bit : ℕ}
-        (j : ℕ) → slice_get parts j ≡ Some i → IsTrue (claims.starts i o bit)
-        → NodeStarts (Choice parts) o bit
-    starts_times : {count : Count} {i o bit : ℕ} → IsTrue (claims.starts i o bit) → NodeStarts (Times count i) o bit
-    starts_many : {i o bit : ℕ} → IsTrue (claims.starts i o bit) → NodeStarts (Many i) o bit
-    starts_window :
-        {unit : ℕ} {count : Count} {i o bit : ℕ}
-        → IsTrue (claims.starts i o bit)
-        → NodeStarts (Window unit count i) o bit
-    starts_named : {label : List ℕ} {i o bit : ℕ} → IsTrue (claims.starts i o bit) → NodeStarts (Named label i) o bit
+  abbrev pub NodeStarts : Node → ℕ → ℕ → Type 0
+  NodeStarts n o bit =
+      equation.NodeStarts d (λ i. IsTrue (claims.nullable i)) (λ i o p. IsTrue (claims.ends i o p)) (λ i o bit. IsTrue (claims.starts i o bit)) n o bit

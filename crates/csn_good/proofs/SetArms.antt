@@ -4,7 +4,6 @@ use Rattle.std.proofs.Common.{◌∙◌, subst, arith, Option, Some, None, slice
 use Rattle.std.specs.Prelude.{IsTrue, ◌==◌, find, is_some}
 use Rattle.std.specs.List.{AllByRecursion}
 use Rattle.std.proofs.lemmas.Bool.Decides.{nat_tests}
-use Rattle.csn_desc.specs.declared.reading.Reading.{Reading}
 use Rattle.csn_desc.specs.declared.symbol.Symbol.{Symbol}
 use Rattle.csn_desc.specs.declared.symbol.Symbol.TheVariants.{Low}
 use Rattle.csn_desc.specs.declared.node.Count.{Count}
@@ -13,21 +12,19 @@ use Rattle.csn_desc.specs.declared.node.Node.{Node}
 use Rattle.csn_desc.specs.declared.node.Node.TheVariants.{Lits, Spare, Pad, Field, Seq, Choice, Times, Many, Trunc, Window, Named}
 use Rattle.csn_desc.specs.Nodes.{DescV}
 use Rattle.csn_desc.specs.Spelled.{symbol_bit, IsSpare}
-use Rattle.csn_desc.proofs.BitFacts.{symbol_bit-le-one, IsBits-spare}
 use Rattle.csn_cert.specs.CertificateV.{NodeV, PositionV, IsPosition, IsNode, IsCertificate}
 use Rattle.csn_cert.specs.Growing.{claimed_of, claimed}
 use Rattle.csn_claims.specs.Claims.{Claims}
 use Rattle.csn_claims.specs.Nullable.{NodeNullable, AllNullable, nullable_field, nullable_times, nullable_no_times}
 use Rattle.csn_claims.specs.Nullable.{nullable_window, nullable_seq, nullable_choice, nullable_named}
-use Rattle.csn_claims.specs.Ends.{NodeEnds, PartsEnd, ManyEnd, LeadEnd, TimesEnd, ends_lits, ends_spare, ends_null}
-use Rattle.csn_claims.specs.Ends.{ends_pad, ends_rest, ends_field, ends_window, ends_seq, ends_choice, ends_times}
-use Rattle.csn_claims.specs.Ends.{ends_counted, ends_many, ends_trunc, ends_named, parts_end, parts_next, times_end}
-use Rattle.csn_claims.specs.Ends.{times_next, many_end, many_next, lead_end, lead_next}
-use Rattle.csn_claims.specs.Starts.{NodeStarts, PartsStart, starts_lits, starts_spare, starts_pad, starts_field}
-use Rattle.csn_claims.specs.Starts.{starts_rest, starts_seq, starts_trunc, starts_choice, starts_times, starts_many}
-use Rattle.csn_claims.specs.Starts.{starts_window, starts_named, starts_here, starts_later}
+use Rattle.csn_claims.specs.Ends.{NodeEnds, ManyEnd, TimesEnd}
+use Rattle.csn_claims.specs.Starts.{NodeStarts, PartsStart, starts_lits, starts_spare, starts_pad}
+use Rattle.csn_claims.specs.Starts.{starts_seq, starts_trunc, starts_choice, starts_times, starts_many}
+use Rattle.csn_claims.specs.Starts.{starts_window, starts_named}
 use Rattle.csn_good.specs.ClaimedSets.{starts_with, claims_of}
-use Rattle.csn_good.specs.Told.{MayBeNone, SomeNullable, SomeStarts, LiteralStarts}
+use Rattle.csn_equations.specs.Counts.{MayBeNone}
+use Rattle.csn_equations.proofs.Small as equation
+use Rattle.csn_good.specs.Told.{SomeNullable, SomeStarts, LiteralStarts}
 use Rattle.csn_good.proofs.Digits.{digit_within}
 use Rattle.csn_good.proofs.EndsTold.{AreSmall}
 
@@ -66,60 +63,21 @@ starts_small c i o bit holds = start_one_at (claimed c i o) bit holds
 -- ---- the sets that equations make are octet positions and bits
 
 module _ (claims : Claims) (small : AreSmall claims) where
-  parts_small : {parts : List ℕ} {o p : ℕ} → o ≤ 7 → PartsEnd claims parts o p → p ≤ 7
-  parts_small low (parts_end same) = omega arith
-  parts_small {o = o} low (parts_next {i = i} m e others) = parts_small (small i o m e) others
-
   pub times_small : {n i o p : ℕ} → o ≤ 7 → TimesEnd claims n i o p → p ≤ 7
-  times_small low (times_end none same) = omega arith
-  times_small {i = i} {o = o} low (times_next k m over e others) = times_small (small i o m e) others
+  times_small low h = equation.times_small (λ i o p. IsTrue (claims.ends i o p)) (λ i o p e begins. small i o p e) h low
 
   pub many_small : {i o p : ℕ} → o ≤ 7 → ManyEnd claims i o p → p ≤ 7
-  many_small low (many_end same) = omega arith
-  many_small {i} {o} low (many_next m e others) = many_small (small i o m e) others
-
-  lead_small : {parts : List ℕ} {o p : ℕ} → o ≤ 7 → LeadEnd claims parts o p → p ≤ 7
-  lead_small low (lead_end same) = omega arith
-  lead_small {o = o} low (lead_next {i = i} m e others) = lead_small (small i o m e) others
+  many_small low h = equation.many_small (λ i o p. IsTrue (claims.ends i o p)) (λ i o p e begins. small i o p e) h low
 
 module _ (d : DescV) (claims : Claims) (small : AreSmall claims) where
   pub node_ends_small : {n : Node} {o p : ℕ} → o ≤ 7 → NodeEnds d claims n o p → p ≤ 7
-  node_ends_small low (ends_lits is) = omega arith
-  node_ends_small low (ends_spare is) = omega arith
-  node_ends_small low (ends_null is) = omega arith
-  node_ends_small low (ends_pad less) = omega arith
-  node_ends_small low (ends_rest less) = omega arith
-  node_ends_small low (ends_field n may is) = omega arith
-  node_ends_small low (ends_window n may is) = omega arith
-  node_ends_small low (ends_seq h) = parts_small claims small low h
-  node_ends_small {o = o} {p = p} low (ends_choice {i = i} j at h) = small i o p h
-  node_ends_small low (ends_times h) = times_small claims small low h
-  node_ends_small low (ends_counted h) = many_small claims small low h
-  node_ends_small low (ends_many h) = many_small claims small low h
-  node_ends_small low (ends_trunc h) = lead_small claims small low h
-  node_ends_small {o = o} {p = p} low (ends_named {i = i} h) = small i o p h
-
-spare_one : (reading : Reading) (s : Symbol) (o bit : ℕ) → IsSpare reading s o (bit ∷ []) → bit ≤ 1
-spare_one reading s o bit h = (IsBits-spare reading s o (bit ∷ []) h).0
+  node_ends_small low h = equation.node_small (λ i o p. IsTrue (claims.ends i o p)) (λ i o p e begins. small i o p e) d h low
 
 module _ (d : DescV) (claims : Claims) (one : (i o bit : ℕ) → IsTrue (claims.starts i o bit) → bit ≤ 1) where
-  parts_one : {parts : List ℕ} {o bit : ℕ} → PartsStart claims parts o bit → bit ≤ 1
-  parts_one {o = o} {bit = bit} (starts_here {i = i} h) = one i o bit h
-  parts_one (starts_later m nullable e h) = parts_one h
-
   pub node_starts_one : {n : Node} {o bit : ℕ} → NodeStarts d claims n o bit → bit ≤ 1
-  node_starts_one (starts_field h) = h
-  node_starts_one (starts_rest h) = h
-  node_starts_one {o = o} (starts_lits {s = s} is) = let low = symbol_bit-le-one s o in omega arith
-  node_starts_one {o = o} {bit = bit} (starts_spare {s = s} h) = spare_one d.reading s o bit h
-  node_starts_one {o = o} {bit = bit} (starts_pad h) = spare_one d.reading Low o bit h
-  node_starts_one (starts_seq h) = parts_one h
-  node_starts_one (starts_trunc h) = parts_one h
-  node_starts_one {o = o} {bit = bit} (starts_choice {i = i} j at h) = one i o bit h
-  node_starts_one {o = o} {bit = bit} (starts_times {i = i} h) = one i o bit h
-  node_starts_one {o = o} {bit = bit} (starts_many {i = i} h) = one i o bit h
-  node_starts_one {o = o} {bit = bit} (starts_window {i = i} h) = one i o bit h
-  node_starts_one {o = o} {bit = bit} (starts_named {i = i} h) = one i o bit h
+  node_starts_one h =
+      equation.node_bit (λ i. IsTrue (claims.nullable i)) (λ i o p. IsTrue (claims.ends i o p))
+      (λ i o bit. IsTrue (claims.starts i o bit)) one d h
 
 -- ---- nullable
 

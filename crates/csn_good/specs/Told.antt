@@ -1,8 +1,6 @@
 -- Facts that the private functions test. No public contract cites these words.
 use Rattle.std.specs.Prelude.{◌≡◌, ℕ, ◌≤◌, Bool, List, [], ◌∷◌, ◌++◌, slice_get, Some, IsTrue}
 use Rattle.csn_desc.specs.declared.symbol.Symbol.{Symbol}
-use Rattle.csn_desc.specs.declared.node.Count.{Count}
-use Rattle.csn_desc.specs.declared.node.Count.TheVariants.{Fixed, Counted}
 use Rattle.csn_desc.specs.Spelled.{symbol_bit}
 use Rattle.csn_desc.specs.declared.node.Node.{Node}
 use Rattle.csn_desc.specs.Nodes.{parts_of}
@@ -10,11 +8,6 @@ use Rattle.csn_claims.specs.Claims.{Claims}
 use Rattle.csn_claims.specs.Ends.{PartsEnd}
 use Rattle.csn_claims.specs.Reached.{PartReached}
 use Rattle.csn_good.specs.Octets.{has_octet}
-
--- a count stands on a field, and is 0 where the field is
-abbrev pub MayBeNone : Count → Type 0
-MayBeNone (Fixed n) = ⊥
-MayBeNone (Counted m field c) = c ≡ 0
 
 -- a literal begins with the bit
 abbrev pub LiteralStarts : List Symbol → ℕ → ℕ → Type 0

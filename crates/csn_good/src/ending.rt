@@ -1,8 +1,7 @@
 //! Where a node may end, by what is claimed of its parts.
 
 ghost use Rattle.std.specs.Prelude.{◌≡◌, ◌+◌, ◌*◌, ◌%◌, ◌^◌, ◌<◌, ◌≤◌, ℕ, length, slice_get};
-ghost use Rattle.csn_desc.specs.Formed.{value_width, width_of};
-ghost use Rattle.csn_look.specs.Ends.{MayCount};
+ghost use Rattle.csn_equations.specs.Ends.{MayCount};
 ghost use Rattle.csn_claims.specs.Ends.{NodeEnds};
 ghost use Rattle.csn_good.specs.ClaimedSets.{claims_of};
 ghost use Rattle.csn_good.specs.Octets.{OctetsAre, OfSome, SomeEnds, TurnsEnd, PartsWithin, NodeWithin};
@@ -10,35 +9,7 @@ ghost use Rattle.csn_good.specs.Octets.{OctetsAre, OfSome, SomeEnds, TurnsEnd, P
 use crate::octets::{Octets, through, through_lead, through_many, through_parts, through_times};
 use csn_cert::Certificate;
 use csn_desc::{Count, Desc, Node, Parts};
-
-/// The bits of a labelled field of constant width, where the node is one.
-fn value_width(desc: &Desc, i: u16) -> Option<u64>
-    ensures { result ≡ value_width desc.now.nodes i }
-{
-    if i >= desc.len() {
-        return None;
-    }
-    match desc.node(i) {
-        Node::Named { label: _, part } => width(desc, *part),
-        _ => None,
-    }
-}
-
-/// How many bits a field of constant width has, where the node is one.
-fn width(desc: &Desc, i: u16) -> Option<u64>
-    ensures { result ≡ width_of (slice_get desc.now.nodes i) }
-{
-    if i >= desc.len() {
-        return None;
-    }
-    match desc.node(i) {
-        Node::Field {
-            unit,
-            count: Count::Fixed(n),
-        } => Some(*unit as u64 * *n as u64),
-        _ => None,
-    }
-}
+use csn_equations::counts::{residues, value_width};
 
 /// Where so many units of bits end that begin at an octet position.
 fn end_of_units(octet: u8, unit: u8, n: u64) -> u8
@@ -47,15 +18,6 @@ fn end_of_units(octet: u8, unit: u8, n: u64) -> u8
     ensures { result ≡ (octet + unit * n) % 8 }
 {
     ((octet as u64 + unit as u64 * n) % 8) as u8
-}
-
-/// How many values of so many bits differ modulo 8.
-fn residues(width: u64) -> u8
-    ensures most { result ≤ 8 }
-    ensures values { result ≤ 2 ^ width }
-    ensures all { (value : ℕ) → value < 2 ^ width → value % 8 < result }
-{
-    if width < 3 { 1 << width } else { 8 }
 }
 
 /// Where as many units of bits end as one of the first few values makes it.

@@ -5,7 +5,7 @@ ghost use Rattle.csn_desc.specs.Nodes.{DescV};
 ghost use Rattle.csn_desc.specs.Spelled.{IsSpare};
 ghost use Rattle.csn_cert.specs.CertificateV.{IsCertificate};
 ghost use Rattle.csn_good.specs.Octets.{PartsWithin, NodeWithin};
-ghost use Rattle.csn_good.specs.Told.{MayBeNone, SomeNullable, SomeStarts, LiteralStarts};
+ghost use Rattle.csn_good.specs.Told.{SomeNullable, SomeStarts, LiteralStarts};
 ghost use Rattle.csn_claims.specs.Nullable.{NodeNullable, AllNullable};
 ghost use Rattle.csn_claims.specs.Ends.{NodeEnds};
 ghost use Rattle.csn_claims.specs.Starts.{NodeStarts};
@@ -16,17 +16,8 @@ use crate::claims::{ends_at, nullable, starts_with};
 use crate::ending::ends_of;
 use crate::tail::tail_of;
 use csn_cert::Certificate;
-use csn_desc::{Count, Desc, Node, Parts, Reading, Run, Symbol};
-
-/// Whether a count may be 0 because its field may make it 0.
-fn may_be_none(count: &Count) -> bool
-    ensures { IsTrue result ↔ MayBeNone count.now }
-{
-    match count {
-        Count::Fixed(_) => false,
-        Count::Counted { m: _, field: _, c } => *c == 0,
-    }
-}
+use csn_desc::{Desc, Node, Parts, Reading, Run, Symbol};
+use csn_equations::counts::may_be_none;
 
 /// Whether each of the parts is claimed to be nullable.
 fn all_nullable(c: &Certificate, parts: &Parts) -> bool
@@ -64,18 +55,18 @@ fn is_nullable(c: &Certificate, node: &Node) -> bool
         Node::Spare(_) => false,
         Node::Pad => false,
         Node::Null => true,
-        Node::Field { unit: _, count } => may_be_none(count),
+        Node::Field { unit: _, count } => may_be_none(*count),
         Node::Rest => true,
         Node::Seq(parts) => all_nullable(c, parts),
         Node::Choice(parts) => some_nullable(c, parts),
-        Node::Times { count, part } => may_be_none(count) || nullable(c, *part),
+        Node::Times { count, part } => may_be_none(*count) || nullable(c, *part),
         Node::Many(_) => true,
         Node::Trunc(_) => true,
         Node::Window {
             unit: _,
             count,
             part,
-        } => may_be_none(count) && nullable(c, *part),
+        } => may_be_none(*count) && nullable(c, *part),
         Node::Named { label: _, part } => nullable(c, *part),
     }
 }

@@ -12,8 +12,9 @@ use Rattle.csn_desc.specs.Spelled.{IsSpare}
 use Rattle.csn_desc.specs.Values.{Values}
 use Rattle.csn_desc.specs.Formed.{IsDescription}
 use Rattle.csn_desc.proofs.Splits.{splits, inside, behind}
-use Rattle.csn_look.specs.Ends.{InEnds, ends_at, ends_pad, ends_rest}
+use Rattle.csn_look.specs.Ends.{InEnds, ends_pad, ends_rest}
 use Rattle.csn_look.specs.Reached.{MayStandBehind}
+use Rattle.csn_look.proofs.Meaning.LeastSets.{ends_at}
 use Rattle.csn_certify.specs.Conflicts.{Certified, IsLast}
 use Rattle.csn_judge.specs.Left.{Left, pad_left, completes_pad, begins_whole, begins_pad}
 use Rattle.csn_judge.specs.Remains.{Within, Rest as RestOf, Goes, goes_next, goes_here}

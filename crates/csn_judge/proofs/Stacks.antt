@@ -19,14 +19,15 @@ use Rattle.csn_desc.proofs.Nodewise.{parts_formed, first_formed, rest_formed, ch
 use Rattle.csn_desc.proofs.Placed.{node_placed}
 use Rattle.csn_desc.proofs.ValuesKept.{no_values_fit, fits_kept}
 use Rattle.csn_desc.proofs.Numbering.{span_grows, parts_span_grow, part_from, span_inside, span_parts}
-use Rattle.csn_look.specs.Nullable.{Nullable, nullable_at, nullable_null, nullable_rest, nullable_many}
+use Rattle.csn_look.specs.Nullable.{Nullable, nullable_null, nullable_rest, nullable_many}
 use Rattle.csn_look.specs.Nullable.{nullable_trunc, nullable_field, nullable_no_times, nullable_window, nullable_seq}
 use Rattle.csn_look.specs.Nullable.{nullable_choice, nullable_named, AllNullable, all_end, all_next}
-use Rattle.csn_look.specs.Ends.{InEnds, ends_at, ends_lits, ends_spare, ends_null, ends_pad, ends_rest, ends_field}
+use Rattle.csn_look.specs.Ends.{InEnds, ends_lits, ends_spare, ends_null, ends_pad, ends_rest, ends_field}
 use Rattle.csn_look.specs.Ends.{ends_window, ends_seq, ends_choice, ends_times, ends_counted, ends_many, ends_trunc}
 use Rattle.csn_look.specs.Ends.{ends_named, PartsEnd, parts_end, parts_next, TimesEnd, ManyEnd, many_end, LeadEnd}
 use Rattle.csn_look.specs.Ends.{lead_end, lead_next}
 use Rattle.csn_look.specs.Reached.{Reached, Turn, turn_fixed, turn_counted}
+use Rattle.csn_look.proofs.Meaning.LeastSets.{nullable_at, ends_at}
 use Rattle.csn_look.proofs.Meaning.ReachFacts.{parts_end_more, many_end_more, turn_first, turn_next, seq_reached}
 use Rattle.csn_look.proofs.Meaning.ReachFacts.{lead_reached, choice_reached, window_reached, named_reached}
 use Rattle.csn_look.proofs.Meaning.ReachFacts.{many_reached, turn_reached}

@@ -1,5 +1,6 @@
 -- What the sets say of meant and followed bits: what is nullable, where bits end and with what they begin, keys,
 -- where parts are reached and what stands behind them.
+pub mod LeastSets
 pub mod ShapeFacts
 pub mod NullableFacts
 pub mod EndsFacts

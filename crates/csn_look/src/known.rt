@@ -1,10 +1,9 @@
 ghost use Rattle.std.specs.Prelude.{◌≡◌, ℕ, ◌+◌, ◌*◌, ◌%◌, ◌^◌, ◌<◌, ◌≤◌, [], ◌∷◌, slice_get, length, true, false, ◌==◌, IsTrue, ◌↔◌};
 ghost use Rattle.csn_desc.specs.Nodes.{DescV, parts_of};
 ghost use Rattle.csn_desc.specs.Spelled.{symbol_bit, IsSpare};
-ghost use Rattle.csn_desc.specs.Formed.{value_width, width_of};
 ghost use Rattle.csn_look.specs.Told.{OctetsAre};
 ghost use Rattle.csn_look.specs.Ends.{MayCount};
-ghost use Rattle.csn_look.specs.Counts.{MayBeNone, IsFixedAt, IsCounted};
+ghost use Rattle.csn_look.specs.Counts.{IsFixedAt, IsCounted};
 ghost use Rattle.csn_look.specs.Starts.{NodeStarts};
 ghost use Rattle.csn_look.specs.NodeSets.{SetsAre, NodeSetsAre, IsKnown, AreKnown};
 
@@ -12,6 +11,7 @@ use crate::node_sets::NodeSets;
 use crate::octet_set::OctetSet;
 use csn_bits::pattern_bit;
 use csn_desc::{Count, Desc, Node, Parts, Reading, Run, Symbol};
+use csn_equations::counts::{may_be_none, residues, value_width};
 
 /// A description and the sets of those of its nodes that are known.
 #[derive(Clone, Copy)]
@@ -197,43 +197,10 @@ impl Known<'_> {
     {
         match count {
             Count::Fixed(n) => OctetSet::empty().with((unit as u64 * n as u64 % 8) as u8),
-            Count::Counted { m, field, c } => match self.value_width(field) {
+            Count::Counted { m, field, c } => match value_width(self.desc, field) {
                 Some(width) => valued(unit, m, c, residues(width)),
                 None => OctetSet::empty(),
             },
-        }
-    }
-
-    /// The bits of a labelled field of constant width, where the node is one.
-    fn value_width(&self, i: u16) -> Option<u64>
-        ensures { result ≡ value_width self.now.desc.now.nodes i }
-    {
-        if i >= self.desc.len() {
-            return None;
-        }
-        match self.desc.node(i) {
-            Node::Named { label: _, part } => self.width(*part),
-            _ => None,
-        }
-    }
-
-    /// The bits of a field of constant width, where the node is one.
-    fn width(&self, i: u16) -> Option<u64>
-        ensures { result ≡ width_of (slice_get self.now.desc.now.nodes i) }
-    {
-        if i >= self.desc.len() {
-            return None;
-        }
-        match self.desc.node(i) {
-            Node::Field { unit, count } => match count {
-                Count::Fixed(n) => Some(*unit as u64 * *n as u64),
-                Count::Counted {
-                    m: _,
-                    field: _,
-                    c: _,
-                } => None,
-            },
-            _ => None,
         }
     }
 }
@@ -314,16 +281,6 @@ pub(crate) fn bit_of_symbol(symbol: Symbol, octet: u8) -> u8
     }
 }
 
-/// Whether a count may be 0 because its field may make it 0.
-fn may_be_none(count: Count) -> bool
-    ensures { IsTrue result ↔ MayBeNone count }
-{
-    match count {
-        Count::Fixed(_) => false,
-        Count::Counted { m: _, field: _, c } => c == 0,
-    }
-}
-
 /// Whether a field has a constant number of bits, which is 0.
 fn is_no_bits(unit: u8, count: Count) -> bool
     ensures { IsTrue result ↔ IsFixedAt (λ n. unit * n ≡ 0) count }
@@ -350,15 +307,6 @@ fn is_counted(count: Count) -> bool
             c: _,
         } => true,
     }
-}
-
-/// How many values of as many bits differ modulo 8.
-fn residues(width: u64) -> u8
-    ensures most { result ≤ 8 }
-    ensures values { result ≤ 2 ^ width }
-    ensures all { (value : ℕ) → value < 2 ^ width → value % 8 < result }
-{
-    if width < 3 { 1 << width } else { 8 }
 }
 
 /// How many bits, modulo 8, units of bits may be that are counted by the first few values of a field.

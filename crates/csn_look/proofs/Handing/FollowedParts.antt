@@ -1,6 +1,6 @@
 -- What may follow nodes, from what may follow the nodes above them.
 use Rattle.std.proofs.Common.{◌≡◌, ◌≢◌, ℕ, suc, ◌+◌, ◌-◌, ◌<◌, ◌≤◌, ◌⊎◌, ◌↔◌, Bool, true, false, ◌||◌, List, [], ◌∷◌}
-use Rattle.std.proofs.Common.{length, take, drop, refl, sym, ap, ◌∙◌, subst, arith, inl, inr, Option, Some, None}
+use Rattle.std.proofs.Common.{◌++◌, length, take, drop, refl, sym, ap, ◌∙◌, subst, arith, inl, inr, Option, Some, None}
 use Rattle.std.specs.Prelude.{slice_get, IsTrue, if◌then◌else◌}
 use Rattle.std.specs.Ordering.{nat_cmp}
 use Rattle.std.specs.FinSet as set
@@ -21,7 +21,7 @@ use Rattle.csn_look.specs.Sums.{Has}
 use Rattle.csn_look.specs.NodeSets.{SetsAre}
 use Rattle.csn_look.specs.Nullable.{AllNullable}
 use Rattle.csn_look.specs.Starts.{InStart, PartsStart}
-use Rattle.csn_look.specs.Reached.{InFollow, PartFollow, follow_root, follow_part, follow_later, follow_seq}
+use Rattle.csn_look.specs.Reached.{OfPart, InFollow, PartFollow, follow_later, follow_seq}
 use Rattle.csn_look.specs.Reached.{follow_kept, follow_trunc, follow_times_again, follow_times, follow_many_again}
 use Rattle.csn_look.specs.Reached.{follow_many, follow_choice, follow_named, follow_window}
 use Rattle.csn_look.specs.Steps.{HasPartsOnce}
@@ -31,6 +31,7 @@ use Rattle.csn_look.specs.declared.symbol_set.Sign.TheVariants.{Zero, One, End}
 use Rattle.csn_look.specs.SignsV.{SignsV}
 use Rattle.csn_look.specs.declared.symbol_set.Sign.{Sign}
 use Rattle.csn_look.specs.Signs.{no_signs, with_sign, has_sign, bit_of_sign}
+use Rattle.csn_look.proofs.Meaning.LeastSets.{follow_root, follow_part, follow_of}
 use Rattle.csn_look.proofs.Sets.LookFacts.{follow_has}
 use Rattle.csn_look.proofs.Sets.Telling.{both, back, truth, PartsSetsAre}
 use Rattle.csn_look.proofs.Handing.ReachedParts.{single}
@@ -241,16 +242,19 @@ module _ (d : DescV) where
       → PartFollow d n k (drop (suc j) (parts_of n)) p o s ↔ InFollow d p o s
   right_follow k j p n is at get o s = (
     (λ h. follow_part k n (take j (parts_of n)) (drop (suc j) (parts_of n)) at (split_drop (parts_of n) j p get) h),
-    (λ h. down h),
+    (λ h. down (follow_of h)),
   )
     where
-      down : {o : ℕ} {s : Option ℕ} → InFollow d p o s → PartFollow d n k (drop (suc j) (parts_of n)) p o s
-      down (follow_root e f) =
+      at_root : {o : ℕ} {s : Option ℕ} → p ≡ 0 → PartFollow d n k (drop (suc j) (parts_of n)) p o s
+      at_root e =
           let inside = slice_get_within d.nodes k n at in
           let sp = span_inside d.nodes k is.numbered (omega arith) inside in
           let low = part_from d.nodes j p (span_parts d.nodes at sp.span) get in
           absurd (omega arith)
-      down {o} {s} (follow_part m q before after there split h) =
+
+      of_part : {o : ℕ} {s : Option ℕ} (m : ℕ) (q : Node) (before after : List ℕ) → slice_get d.nodes m ≡ Some q
+          → parts_of q ≡ before ++ p ∷ after → PartFollow d q m after p o s → PartFollow d n k (drop (suc j) (parts_of n)) p o s
+      of_part {o} {s} m q before after there split h =
           let got : slice_get (parts_of q) (length before) ≡ Some p =
           subst (λ l. slice_get l (length before) ≡ Some p) (sym split) (middle_get before after p) in
           let one = one_parent d m k (length before) j p q n is there at got get in
@@ -260,17 +264,27 @@ module _ (d : DescV) where
           ∙ ap (λ i. drop (suc i) (parts_of q)) one.1 ∙ ap (λ r. drop (suc j) (parts_of r)) same in
           subst (λ l. PartFollow d n k l p o s) back (subst (λ r. PartFollow d r k after p o s) same (subst (λ i. PartFollow d q i after p o s) one.0 h))
 
-  root_none : IsDescription d → {i o : ℕ} {s : Option ℕ} → InFollow d i o s → i ≡ 0 → s ≡ None
-  root_none is (follow_root e f) none = f
-  root_none is {i} (follow_part m q before after there split h) none =
+      down : {o : ℕ} {s : Option ℕ} → ((p ≡ 0) × (s ≡ None)) ⊎ OfPart d p (λ m q after. PartFollow d q m after p o s)
+          → PartFollow d n k (drop (suc j) (parts_of n)) p o s
+      down (inl root) = at_root root.0
+      down (inr part) = of_part part.above part.node part.before part.after part.at part.split part.so
+
+  no_part_of : IsDescription d → {i : ℕ} (m : ℕ) (q : Node) (before after : List ℕ) → slice_get d.nodes m ≡ Some q
+      → parts_of q ≡ before ++ i ∷ after → i ≡ 0 → ⊥
+  no_part_of is {i} m q before after there split none =
       let got : slice_get (parts_of q) (length before) ≡ Some i = subst (λ l. slice_get l (length before) ≡ Some i) (sym split) (middle_get before after i) in
       let inside = slice_get_within d.nodes m q there in
       let sp = span_inside d.nodes m is.numbered (omega arith) inside in
       let low = part_from d.nodes (length before) i (span_parts d.nodes there sp.span) got in
       absurd (omega arith)
 
+  root_none : IsDescription d → {i o : ℕ} {s : Option ℕ}
+      → ((i ≡ 0) × (s ≡ None)) ⊎ OfPart d i (λ m q after. PartFollow d q m after i o s) → i ≡ 0 → s ≡ None
+  root_none is (inl root) none = root.1
+  root_none is (inr part) none = absurd (no_part_of is part.above part.node part.before part.after part.at part.split none)
+
   pub root_follow : (f : Following) → IsDescription d → OnlyEnd f → FollowsAre d 0 f
-  root_follow f is e = resay (only_end f e) (λ o s. ((λ h. follow_root refl h), (λ h. root_none is h refl)))
+  root_follow f is e = resay (only_end f e) (λ o s. ((λ h. follow_root refl h), (λ h. root_none is (follow_of h) refl)))
 
 -- ---- what is put for parts
 

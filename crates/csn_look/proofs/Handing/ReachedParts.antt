@@ -19,68 +19,40 @@ use Rattle.csn_desc.proofs.Parents.{one_parent}
 use Rattle.csn_look.specs.Told.{OctetsAre}
 use Rattle.csn_look.specs.Sums.{Has, IsSum, SumOf, sum_none, sum_next}
 use Rattle.csn_look.specs.NodeSets.{LengthsAre}
-use Rattle.csn_look.specs.Ends.{InEnds, NodeEnds, PartsEnd, TimesEnd, ManyEnd, LeadEnd, ends_at, ends_lits}
-use Rattle.csn_look.specs.Ends.{ends_spare, ends_null, ends_pad, ends_rest, ends_field, ends_window, ends_seq}
-use Rattle.csn_look.specs.Ends.{ends_choice, ends_times, ends_counted, ends_many, ends_trunc, ends_named, parts_end}
-use Rattle.csn_look.specs.Ends.{parts_next, times_end, times_next, many_end, many_next, lead_end, lead_next}
+use Rattle.csn_look.specs.Ends.{InEnds, PartsEnd, TimesEnd, ManyEnd}
+use Rattle.csn_look.specs.Ends.{parts_end}
+use Rattle.csn_look.specs.Ends.{parts_next}
 use Rattle.csn_look.specs.Reached.{Reached, PartReached, reached_root, reached_part, reached_seq, reached_trunc}
 use Rattle.csn_look.specs.Reached.{reached_choice, reached_window, reached_named, reached_times, reached_counted}
 use Rattle.csn_look.specs.Reached.{reached_many}
 use Rattle.csn_look.specs.ReachV.{HasAt}
 use Rattle.csn_look.specs.Steps.{IsStep, HasSteps, KeepsOthers, HasPartsOnce, HasPartsBelow, HandsTo}
+use Rattle.csn_equations.proofs.Small.{LeadsOn, parts_small, times_small, many_small, node_small}
+use Rattle.csn_look.proofs.Meaning.LeastSets.{EndsWith, each_ends}
 use Rattle.csn_look.proofs.Meaning.ReachFacts.{parts_end_more}
 use Rattle.csn_look.proofs.Basics.Puts.{get_put_same, get_put_other, middle_get, middle_take, split_at, take_more}
 use Rattle.csn_look.proofs.Basics.Octets.{has_insert, has_none, sum_small}
 use Rattle.csn_look.proofs.Sets.RepetitionsTell.{times_of, sum_of_times}
 
+-- ---- ends are octet positions
+
 module _ (d : DescV) where
-  -- ---- ends are octet positions
+  pub end_small : {i o p : ℕ} → InEnds d i o p → o ≤ 7 → p ≤ 7
+  end_small h low =
+      each_ends (λ i o p. LeadsOn o p) (λ i o p made. node_small (EndsWith d (λ i o p. LeadsOn o p)) (λ j r s over. over.1) d made.has) h low
 
-  mutual
-    pub end_small : {i o p : ℕ} → InEnds d i o p → o ≤ 7 → p ≤ 7
-    end_small (ends_at n at h) low = node_end_small h low
-
-    node_end_small : {n : Node} {o p : ℕ} → NodeEnds d n o p → o ≤ 7 → p ≤ 7
-    node_end_small (ends_lits e) low = omega arith
-    node_end_small (ends_spare e) low = omega arith
-    node_end_small (ends_null e) low = omega arith
-    node_end_small (ends_pad e) low = omega arith
-    node_end_small (ends_rest e) low = omega arith
-    node_end_small (ends_field n may e) low = omega arith
-    node_end_small (ends_window n may e) low = omega arith
-    node_end_small (ends_seq h) low = parts_end_small h low
-    node_end_small (ends_choice j at h) low = end_small h low
-    node_end_small (ends_times h) low = times_end_small h low
-    node_end_small (ends_counted h) low = many_end_small h low
-    node_end_small (ends_many h) low = many_end_small h low
-    node_end_small (ends_trunc h) low = lead_end_small h low
-    node_end_small (ends_named h) low = end_small h low
-
-    pub parts_end_small : {parts : List ℕ} {o p : ℕ} → PartsEnd d parts o p → o ≤ 7 → p ≤ 7
-    parts_end_small (parts_end e) low = omega arith
-    parts_end_small (parts_next middle h others) low = parts_end_small others (end_small h low)
-
-    times_end_small : {n i o p : ℕ} → TimesEnd d n i o p → o ≤ 7 → p ≤ 7
-    times_end_small (times_end e f) low = omega arith
-    times_end_small (times_next m middle e h others) low = times_end_small others (end_small h low)
-
-    many_end_small : {i o p : ℕ} → ManyEnd d i o p → o ≤ 7 → p ≤ 7
-    many_end_small (many_end e) low = omega arith
-    many_end_small (many_next middle h others) low = many_end_small others (end_small h low)
-
-    lead_end_small : {parts : List ℕ} {o p : ℕ} → LeadEnd d parts o p → o ≤ 7 → p ≤ 7
-    lead_end_small (lead_end e) low = omega arith
-    lead_end_small (lead_next middle h others) low = lead_end_small others (end_small h low)
+  small_ends : (i o p : ℕ) → InEnds d i o p → LeadsOn o p
+  small_ends i o p h low = end_small h low
 
   step_small : {n : Node} {before : List ℕ} {i from o : ℕ} → PartReached d n before i from o → from ≤ 7 → o ≤ 7
-  step_small (reached_seq h) low = parts_end_small h low
-  step_small (reached_trunc h) low = parts_end_small h low
+  step_small (reached_seq h) low = parts_small (InEnds d) small_ends h low
+  step_small (reached_trunc h) low = parts_small (InEnds d) small_ends h low
   step_small (reached_choice e) low = omega arith
   step_small (reached_window e) low = omega arith
   step_small (reached_named e) low = omega arith
-  step_small (reached_times m less h) low = times_end_small h low
-  step_small (reached_counted h) low = many_end_small h low
-  step_small (reached_many h) low = many_end_small h low
+  step_small (reached_times m less h) low = times_small (InEnds d) small_ends h low
+  step_small (reached_counted h) low = many_small (InEnds d) small_ends h low
+  step_small (reached_many h) low = many_small (InEnds d) small_ends h low
 
   pub reached_small : {i o : ℕ} → Reached d i o → o ≤ 7
   reached_small (reached_root e f) = omega arith
@@ -125,7 +97,7 @@ module _ (d : DescV) where
             (b.0, b.1, b.2, subst (λ ps. PartsEnd d ps b.0 o) (sym longer) (parts_end_more d b.3 last))),
         (λ (begin, small, h, e).
             let l = last_end (take j parts) p (subst (λ ps. PartsEnd d ps begin o) longer e) in
-            let middle_low = parts_end_small l.front small in
+            let middle_low = parts_small (InEnds d) small_ends l.front small in
             let r = (ends l.middle o middle_low).1 l.last in
             (sums o low).1 (record {
               a = l.middle;

@@ -14,10 +14,11 @@ use Rattle.csn_desc.specs.Means.{lead_last}
 use Rattle.csn_desc.specs.Means as mean
 use Rattle.csn_desc.specs.Formed.{FitWidths}
 use Rattle.csn_desc.proofs.BitFacts.{length-spelled}
-use Rattle.csn_look.specs.Ends.{InEnds, NodeEnds, PartsEnd, TimesEnd, ManyEnd, LeadEnd, ends_at, ends_lits}
+use Rattle.csn_look.specs.Ends.{InEnds, NodeEnds, PartsEnd, TimesEnd, ManyEnd, LeadEnd, ends_lits}
 use Rattle.csn_look.specs.Ends.{ends_spare, ends_null, ends_pad, ends_rest, ends_field, ends_window, ends_seq}
 use Rattle.csn_look.specs.Ends.{ends_choice, ends_times, ends_counted, ends_many, ends_trunc, ends_named, parts_end}
 use Rattle.csn_look.specs.Ends.{parts_next, times_end, times_next, many_end, many_next, lead_end, lead_next}
+use Rattle.csn_look.proofs.Meaning.LeastSets.{ends_at}
 use Rattle.csn_look.proofs.Meaning.ShapeFacts.{NodeIs, Shaped, may_count, octet-on, octet-same, place-split, kept}
 
 octet-lt : (p : ℕ) → p % 8 < 8

@@ -7,8 +7,9 @@ use Rattle.csn_desc.specs.Nodes.{DescV}
 use Rattle.csn_desc.specs.Values.{Values}
 use Rattle.csn_desc.specs.Means.{PartsMean, TimesMean, ManyMean, LeadMean}
 use Rattle.csn_desc.specs.Formed.{FitWidths}
-use Rattle.csn_look.specs.Reached.{InFollow, MayStandBehind, follow_part, follow_later, follow_seq, follow_kept}
+use Rattle.csn_look.specs.Reached.{InFollow, MayStandBehind, follow_later, follow_seq, follow_kept}
 use Rattle.csn_look.specs.Reached.{follow_trunc, follow_times_again, follow_times, follow_many_again, follow_many}
+use Rattle.csn_look.proofs.Meaning.LeastSets.{follow_part}
 use Rattle.csn_look.proofs.Meaning.ShapeFacts.{Shaped}
 use Rattle.csn_look.proofs.Meaning.NullableFacts.{parts_nullable}
 use Rattle.csn_look.proofs.Meaning.StartFacts.{parts_start, times_start, many_start, lead_start}

@@ -19,12 +19,13 @@ use Rattle.csn_desc.specs.Means.{NMeans, NodeMeans, PartsMean, TimesMean, means_
 use Rattle.csn_desc.specs.Means.{means_pad, means_null, means_field, means_rest, means_seq, means_choice, means_times}
 use Rattle.csn_desc.specs.Means.{means_many, means_cut, means_trunc, means_window, means_named, parts_end, parts_next}
 use Rattle.csn_desc.specs.Means.{times_end, times_next}
-use Rattle.csn_look.specs.Keys.{Cut, kept, cut, InKeys, NodeKeys, PartsKeys, TimesKeys, keys_at, keys_lits}
+use Rattle.csn_look.specs.Keys.{Cut, kept, cut, InKeys, NodeKeys, PartsKeys, TimesKeys, keys_lits}
 use Rattle.csn_look.specs.Keys.{keys_spare, keys_field, keys_pad, keys_null, keys_rest, keys_many, keys_trunc}
 use Rattle.csn_look.specs.Keys.{keys_window, keys_counted_field, keys_counted_times, keys_seq, keys_times}
 use Rattle.csn_look.specs.Keys.{keys_choice, keys_named, parts_none, parts_cut, parts_whole, times_none, times_cut}
 use Rattle.csn_look.specs.Keys.{times_whole}
 use Rattle.csn_look.specs.Beginnings.{Begun}
+use Rattle.csn_look.proofs.Meaning.LeastSets.{keys_at}
 use Rattle.csn_look.proofs.Meaning.StartFacts.{symbol_bit-octet, first_spare}
 
 pub spelled-octet : (run : List Symbol) (o p : ℕ) → o % 8 ≡ p % 8 → spelled run o ≡ spelled run p

@@ -22,12 +22,13 @@ use Rattle.csn_desc.specs.Formed.{Formed, PartsFormed, formed, formed_end, forme
 use Rattle.csn_desc.proofs.Nodewise.{held_along}
 use Rattle.csn_desc.proofs.Splits.{splits, inside, behind}
 use Rattle.csn_desc.proofs.BitFacts.{spelled_is_spare}
-use Rattle.csn_look.specs.Keys.{Cut, kept, cut, InKeys, NodeKeys, PartsKeys, TimesKeys, keys_at, keys_lits}
+use Rattle.csn_look.specs.Keys.{Cut, kept, cut, InKeys, NodeKeys, PartsKeys, TimesKeys, keys_lits}
 use Rattle.csn_look.specs.Keys.{keys_spare, keys_field, keys_pad, keys_null, keys_rest, keys_many, keys_trunc}
 use Rattle.csn_look.specs.Keys.{keys_window, keys_counted_field, keys_counted_times, keys_seq, keys_times}
 use Rattle.csn_look.specs.Keys.{keys_choice, keys_named, parts_none, parts_cut, parts_whole, times_none, times_cut}
 use Rattle.csn_look.specs.Keys.{times_whole}
 use Rattle.csn_look.specs.Beginnings.{Begun, Near, near_begun, near_within}
+use Rattle.csn_look.proofs.Meaning.LeastSets.{keys_at}
 use Rattle.csn_look.proofs.Meaning.KeyFacts.{keys, node_keys, as_key, unread, octet_word, marked_key, whole_word, cut_first, both_words}
 use Rattle.csn_bits.proofs.Packing.{IsBits-zeros}
 

@@ -12,9 +12,10 @@ use Rattle.csn_desc.specs.Means.{means_null, means_field, means_rest, means_seq,
 use Rattle.csn_desc.specs.Means.{means_many, means_cut, means_trunc, means_window, means_named, parts_end, parts_next}
 use Rattle.csn_desc.specs.Means.{times_end, times_next}
 use Rattle.csn_desc.proofs.Splits.{front_empty, rest_empty}
-use Rattle.csn_look.specs.Nullable.{Nullable, NodeNullable, AllNullable, nullable_at, nullable_null, nullable_rest}
+use Rattle.csn_look.specs.Nullable.{Nullable, NodeNullable, AllNullable, nullable_null, nullable_rest}
 use Rattle.csn_look.specs.Nullable.{nullable_many, nullable_trunc, nullable_field, nullable_times, nullable_no_times}
 use Rattle.csn_look.specs.Nullable.{nullable_window, nullable_seq, nullable_choice, nullable_named, all_end, all_next}
+use Rattle.csn_look.proofs.Meaning.LeastSets.{nullable_at}
 use Rattle.csn_look.proofs.Meaning.ShapeFacts.{CountIs, NodeIs, Shaped}
 
 no_units : (unit n : ℕ) (b : List ℕ) → 0 < unit → length b ≡ unit * n → b ≡ [] → n ≡ 0

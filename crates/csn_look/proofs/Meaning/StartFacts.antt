@@ -23,9 +23,10 @@ use Rattle.csn_desc.specs.Follows.{follows_window, follows_named, parts_here, pa
 use Rattle.csn_desc.specs.Follows.{many_here, many_later}
 use Rattle.csn_desc.specs.Formed.{FitWidths}
 use Rattle.csn_desc.proofs.BitFacts.{IsBits-along}
-use Rattle.csn_look.specs.Starts.{InStart, NodeStarts, PartsStart, starts_at, starts_lits, starts_spare, starts_pad}
+use Rattle.csn_look.specs.Starts.{InStart, NodeStarts, PartsStart, starts_lits, starts_spare, starts_pad}
 use Rattle.csn_look.specs.Starts.{starts_field, starts_rest, starts_seq, starts_trunc, starts_choice, starts_times}
 use Rattle.csn_look.specs.Starts.{starts_many, starts_window, starts_named, starts_here, starts_later}
+use Rattle.csn_look.proofs.Meaning.LeastSets.{starts_at}
 use Rattle.csn_look.proofs.Meaning.ShapeFacts.{NodeIs, Shaped, kept}
 use Rattle.csn_look.proofs.Meaning.NullableFacts.{nullable}
 use Rattle.csn_look.proofs.Meaning.EndsFacts.{ends}

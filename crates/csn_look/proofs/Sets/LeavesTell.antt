@@ -14,10 +14,11 @@ use Rattle.csn_look.specs.declared.word.TheConstants.{MOST_WORD}
 use Rattle.csn_look.specs.Told.{OctetsAre}
 use Rattle.csn_look.specs.Sums.{Has}
 use Rattle.csn_look.specs.NodeSets.{SetsAre, NodeSetsAre}
-use Rattle.csn_look.specs.Nullable.{Nullable, NodeNullable, nullable_at, nullable_null, nullable_rest, all_end}
-use Rattle.csn_look.specs.Ends.{InEnds, NodeEnds, PartsEnd, LeadEnd, ends_at, ends_lits, ends_spare, ends_null, ends_pad, ends_rest, parts_end, lead_end}
-use Rattle.csn_look.specs.Starts.{InStart, NodeStarts, PartsStart, starts_at, starts_lits, starts_spare, starts_pad, starts_rest}
-use Rattle.csn_look.specs.Keys.{InKeys, NodeKeys, PartsKeys, keys_at, keys_lits, keys_spare, keys_pad, keys_null, keys_rest, parts_none}
+use Rattle.csn_look.specs.Nullable.{Nullable, nullable_null, nullable_rest, all_end}
+use Rattle.csn_look.specs.Ends.{InEnds, NodeEnds, PartsEnd, LeadEnd, ends_lits, ends_spare, ends_null, ends_pad, ends_rest, parts_end, lead_end}
+use Rattle.csn_look.specs.Starts.{InStart, NodeStarts, PartsStart, starts_lits, starts_spare, starts_pad, starts_rest}
+use Rattle.csn_look.specs.Keys.{InKeys, NodeKeys, PartsKeys, keys_lits, keys_spare, keys_pad, keys_null, keys_rest, parts_none}
+use Rattle.csn_look.proofs.Meaning.LeastSets.{nullable_at, as_nullable, ends_at, as_ends, starts_at, as_starts, keys_at, as_keys}
 use Rattle.csn_look.proofs.Meaning.EmptyKeys.{cut_empty, empty_cut, one_is_some}
 use Rattle.csn_look.proofs.Sets.Telling.{AnyOf, ChoiceSetsAre, LeadSetsAre, NoBits, Nothing, PartsSetsAre}
 use Rattle.csn_look.proofs.Sets.Telling.{all_lengths, all_octets, both, falsity, no_lengths, no_octets, one_length}
@@ -26,25 +27,13 @@ use Rattle.csn_look.proofs.Sets.Telling.{retell, some_word, true_is_not, truth, 
 module _ (d : DescV) where
   -- ---- the node with a number
 
-  null_at : {i : ℕ} {n : Node} → slice_get d.nodes i ≡ Some n → Nullable d i → NodeNullable d n
-  null_at {n = n} at (nullable_at m is h) = let same : m ≡ n = cc in subst (λ k. NodeNullable d k) same h
-
-  end_at : {i o p : ℕ} {n : Node} → slice_get d.nodes i ≡ Some n → InEnds d i o p → NodeEnds d n o p
-  end_at {o = o} {p = p} {n = n} at (ends_at m is h) = let same : m ≡ n = cc in subst (λ k. NodeEnds d k o p) same h
-
-  start_at : {i o bit : ℕ} {n : Node} → slice_get d.nodes i ≡ Some n → InStart d i o bit → NodeStarts d n o bit
-  start_at {o = o} {bit = bit} {n = n} at (starts_at m is h) = let same : m ≡ n = cc in subst (λ k. NodeStarts d k o bit) same h
-
-  key_at : {i o : ℕ} {x : List ℕ} {mark : Bool} {n : Node} → slice_get d.nodes i ≡ Some n → InKeys d MOST_WORD i o x mark → NodeKeys d MOST_WORD n o x mark
-  key_at {o = o} {x = x} {mark = mark} {n = n} at (keys_at m is h) = let same : m ≡ n = cc in subst (λ k. NodeKeys d MOST_WORD k o x mark) same h
-
   pub node_at : (i : ℕ) (n : Node) (sets : NodeSets) → slice_get d.nodes i ≡ Some n → NodeSetsAre d n sets → SetsAre d i sets
   node_at i n sets at t =
       retell t
-      ((λ h. nullable_at n at h), (λ h. null_at at h))
-      (λ o p small. ((λ h. ends_at n at h), (λ h. end_at at h)))
-      (λ o bit. ((λ h. starts_at n at h), (λ h. start_at at h)))
-      (λ mark. ((λ h. keys_at n at h), (λ h. key_at at h)))
+      ((λ h. nullable_at n at h), (λ h. as_nullable at h))
+      (λ o p small. ((λ h. ends_at n at h), (λ h. as_ends at h)))
+      (λ o bit. ((λ h. starts_at n at h), (λ h. as_starts at h)))
+      (λ mark. ((λ h. keys_at n at h), (λ h. as_keys at h)))
 
   -- ---- nodes without parts
 

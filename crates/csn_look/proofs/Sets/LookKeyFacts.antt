@@ -1,12 +1,20 @@
--- The list of the keys of a table, where the table has those of a node.
-use Rattle.std.proofs.Common.{ℕ, List}
+-- The table of a node, and the list of its keys.
+use Rattle.std.proofs.Common.{◌≡◌, ℕ, ◌<◌, ◌≤◌, List, length, sym, subst, arith}
 use Rattle.csn_desc.specs.Nodes.{DescV}
 use Rattle.csn_look.specs.declared.word.Key.{Key}
 use Rattle.csn_look.specs.Keys.{InKeys}
 use Rattle.csn_look.specs.KeyMarks.{KeysAre}
 use Rattle.csn_look.specs.KeyLists.{IsKeyList}
-use Rattle.csn_look.specs.LookKeys.{ListsKeys}
+use Rattle.csn_look.specs.LookV.{LookV}
+use Rattle.csn_look.specs.LookKeys.{table_at, IsKeysOf, ListsKeys}
 use Rattle.csn_look.proofs.Tables.KeyWords.{key_word}
+
+-- the table of a node has its keys
+pub table_keys : (d : DescV) (look : LookV) (i o : ℕ) (marks : List ℕ) → marks ≡ table_at look i o
+    → i < length look.rows → o ≤ 7 → IsKeysOf d look → KeysAre marks (InKeys d 12 i o)
+table_keys d look i o marks is inside low known =
+    let there : i < length d.nodes = omega (arith, inside, known.same) in
+    subst (λ (table : List ℕ). KeysAre table (InKeys d 12 i o)) (sym is) (known.keys i o there low)
 
 pub lists_keys : (d : DescV) (i o : ℕ) (marks : List ℕ) (keys : List Key) → KeysAre marks (InKeys d 12 i o)
     → IsKeyList marks keys → ListsKeys keys (InKeys d 12 i o)

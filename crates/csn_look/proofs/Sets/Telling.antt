@@ -1,5 +1,5 @@
 -- Facts that hold both ways, sets of octet positions and lengths, and what sets of parts tell.
-use Rattle.std.proofs.Common.{◌≡◌, ℕ, zero, suc, ◌+◌, ◌-◌, ◌*◌, ◌%◌, ◌^◌, ◌<◌, ◌≤◌, Bool, true, false, ◌&&◌, ◌||◌}
+use Rattle.std.proofs.Common.{◌≡◌, ℕ, zero, suc, ◌+◌, ◌-◌, ◌%◌, ◌<◌, ◌≤◌, Bool, true, false, ◌&&◌, ◌||◌}
 use Rattle.std.proofs.Common.{◌⊎◌, ◌↔◌, nat_eq, not, List, [], ◌∷◌, length, refl, sym, ap, ◌∙◌, arith, inl, inr, Some}
 use Rattle.std.specs.Prelude.{slice_get, IsTrue}
 use Rattle.std.specs.Ordering.{nat_cmp}
@@ -8,7 +8,6 @@ use Rattle.std.proofs.Math.ListN.{drop}
 use Rattle.std.proofs.Math.Seq.{drop-cons, drop-length}
 use Rattle.std.proofs.lemmas.Option.{slice_get_within, get_or_from_slice_get}
 use Rattle.std.proofs.lemmas.Bool.Decides.{eqb_tells}
-use Rattle.std.proofs.Math.Pow.{pow_mono}
 use Rattle.csn_desc.specs.Nodes.{DescV}
 use Rattle.csn_look.specs.declared.node_sets.NodeSets.{NodeSets}
 use Rattle.csn_look.specs.declared.word.TheConstants.{MOST_WORD}
@@ -168,17 +167,6 @@ last_more parts k p some at =
     drop-cons parts (k - 1) p inside
     ∙ ap (λ x. x ∷ drop (suc (k - 1)) parts) (get_or_from_slice_get parts (k - 1) p p at)
     ∙ ap (λ n. p ∷ drop n parts) next
-
--- ---- powers of two
-
-pub low_power : (w : ℕ) → w < 3 → 1 * 2 ^ w % 256 ≤ 8
-low_power zero h = omega arith
-low_power (suc zero) h = omega arith
-low_power (suc (suc zero)) h = omega arith
-low_power (suc (suc (suc w))) h = absurd (omega arith)
-
-pub high_power : (w : ℕ) → 3 ≤ w → 8 ≤ 2 ^ w
-high_power w h = let p : 2 ^ 3 ≤ 2 ^ w = pow_mono h in omega arith
 
 -- ---- one fact for another
 

@@ -12,7 +12,8 @@ use Rattle.csn_desc.specs.Formed.{value_width}
 use Rattle.csn_look.specs.declared.node_sets.NodeSets.{NodeSets}
 use Rattle.csn_look.specs.declared.word.TheConstants.{MOST_WORD}
 use Rattle.csn_look.specs.Told.{OctetsAre}
-use Rattle.csn_look.specs.Counts.{MayBeNone, IsFixedAt, IsCounted}
+use Rattle.csn_equations.specs.Counts.{MayBeNone}
+use Rattle.csn_look.specs.Counts.{IsFixedAt, IsCounted}
 use Rattle.csn_look.specs.Sums.{Has}
 use Rattle.csn_look.specs.NodeSets.{LengthsAre, SetsAre, NodeSetsAre}
 use Rattle.csn_look.specs.Nullable.{Nullable, NodeNullable, nullable_field, nullable_window}

@@ -9,11 +9,12 @@ use Rattle.std.proofs.lemmas.Option.{slice_get_within, slice_get-get_or, get_or_
 use Rattle.csn_desc.specs.declared.node.Node.{Node}
 use Rattle.csn_desc.specs.Nodes.{DescV, parts_of}
 use Rattle.csn_look.specs.declared.node_sets.NodeSets.{NodeSets}
-use Rattle.csn_look.specs.Keys.{InKeys, NodeKeys, PartsKeys, TimesKeys, keys_at}
+use Rattle.csn_look.specs.Keys.{InKeys, NodeKeys, PartsKeys, TimesKeys}
 use Rattle.csn_look.specs.KeyMarks.{KeysAre}
 use Rattle.csn_look.specs.LookV.{IsRow, AreRows}
 use Rattle.csn_look.specs.LookKeys.{IsKeysOf}
 use Rattle.csn_look.specs.KeyRows.{table_of, HasRow, IsMore, Makes, RowAfter, IsRowed, AreRowed, HasRows}
+use Rattle.csn_look.proofs.Meaning.LeastSets.{keys_at, as_keys}
 use Rattle.csn_look.proofs.Tables.KeyWords.{times_word}
 use Rattle.csn_look.proofs.Tables.NodeKeys.{IsStable, stable_for_ever}
 use Rattle.csn_look.proofs.Tables.RowFacts.{more_then, row_stays, row_as, makes_as}
@@ -75,13 +76,7 @@ module _ (d : DescV) where
       (tables : List (List ℕ)) (row : List ℕ) (i : ℕ) (n : Node) → slice_get d.nodes i ≡ Some n
       → HasRow tables row (NodeKeys d 12 n) → HasRow tables row (InKeys d 12 i)
   node_row tables row i n at has =
-      row_as tables row (NodeKeys d 12 n) (InKeys d 12 i) has (λ o word mark low is. ((λ h. keys_at n at h), (λ h. from h)))
-    where
-      from : {o : ℕ} {word : List ℕ} {mark : Bool} → InKeys d 12 i o word mark → NodeKeys d 12 n o word mark
-      from {o} {word} {mark} (keys_at m there h) =
-          let same : m ≡ n = cc (at, there) in
-          let P : Node → Type 0 = λ k. NodeKeys d 12 k o word mark in
-          subst P same h
+      row_as tables row (NodeKeys d 12 n) (InKeys d 12 i) has (λ o word mark low is. ((λ h. keys_at n at h), (λ h. as_keys at h)))
 
   pub rowed_more :
       (tables new rows : List (List ℕ)) (i : ℕ) (row : List ℕ) → length rows ≡ length d.nodes → IsMore tables new → HasRow new row (InKeys d 12 i)

@@ -5,9 +5,21 @@ use Rattle.csn_cert.specs.PatternV.{PatternV}
 use Rattle.csn_cert.specs.PatternText.{ComesBefore}
 use Rattle.csn_cert.specs.CertificateV.{NodeV, PositionV, Rises}
 use Rattle.csn_certmake.specs.Patterns.{patterns_in}
-use Rattle.csn_certmake.proofs.Telling.{NodeSo, position_below, node_skips, node_has, ends_told}
+use Rattle.csn_certmake.proofs.Telling.{NodeSo, node_begun, node_done, position_below, node_skips, node_has}
+use Rattle.csn_certmake.proofs.Telling.{ends_told}
 use Rattle.csn_certmake.proofs.make.add_node.Goals as goal
 use Rattle.csn_certmake.proofs.make.add_node.Goals.{then-has+in_ok-add_position, else-has}
+
+pub loop-octet-init : goal.loop-octet-init
+loop-octet-init c =
+    node_begun c.args.look.now c.args.reach.now c.args.row.now c.args.node c.args.c.now c.node.new.self
+    c.nullable.result c.follow_digits.result c.in_ok-node.ensures.ok
+    (λ d known. c.nullable.ensures d known.sets) (λ d known. c.follow_digits.ensures.follow d known.follow)
+
+pub returns : goal.returns
+returns c =
+    node_done c.args.look.now c.args.reach.now c.args.row.now c.args.node c.loop-octet.octet c.args.c.now c.loop-octet.c
+    (omega (arith, c.loop-octet-test.false)) c.loop-octet.invariant
 
 pub add_position-requires-clause-after : goal.add_position-requires-clause-after
 add_position-requires-clause-after c = position_below c.args.look.now c.args.reach.now c.args.row.now c.args.node

@@ -1,6 +1,7 @@
 use Rattle.std.proofs.Common.{[], refl}
 use Rattle.csn_desc.specs.declared.node.Node.TheVariants.{Seq, Choice, Times, Many, Trunc, Named}
-use Rattle.csn_look.specs.Reached.{follow_part, follow_later, follow_kept, follow_trunc, follow_times_again, follow_many_again, follow_choice, follow_named}
+use Rattle.csn_look.specs.Reached.{follow_later, follow_kept, follow_trunc, follow_times_again, follow_many_again, follow_choice, follow_named}
+use Rattle.csn_look.proofs.Meaning.LeastSets.{follow_part}
 use Rattle.csn_look.proofs.Meaning.ShapeFacts.{shape_of}
 use Rattle.csn_look.proofs.Meaning.StartFacts.{parts_follow_start, times_follow_start, many_follow_start}
 use Rattle.csn_look.proofs.Meaning.FollowFacts.{cuts, seq_follows, lead_follows, times_follows, many_follows}

@@ -1,6 +1,13 @@
 use Rattle.csn_look.specs.Reached.{Reached}
-use Rattle.csn_certify.proofs.SearchFacts.{ends_nowhere, reached_there, denied, in_table}
+use Rattle.csn_certify.proofs.SearchFacts.{ends_here, ends_nowhere, reached_there, denied, in_table}
 use Rattle.csn_certify.proofs.search.Search.ends_from.Goals as goal
+
+pub returns-then-has : goal.returns-then-has
+returns-then-has c =
+    let d = c.args.self.now.desc.now in
+    let there = reached_there d c.args.node c.args.from c.reached.result c.has.result
+    (c.reached.ensures d c.requires.known.reached) c.requires.octet c.has.ensures in
+    ends_here d c.args.node c.ends.result c.args.from (there.0 c.if-has.true) (c.ends.ensures d c.requires.known.sets)
 
 pub returns-else-has : goal.returns-else-has
 returns-else-has c =

@@ -12,9 +12,9 @@ pub returns-in-Some : goal.returns-in-Some
 returns-in-Some c =
     valued_units c.args.self.now.desc.now c.args.unit c.in-Counted.m c.in-Counted.field c.in-Counted.c c.in-Some.width
     c.residues.result c.args.count c.valued.result
-    c.in-Counted.is (sym c.in-Some.ensures) c.residues.ensures.values c.residues.ensures.all c.valued.ensures
+    c.in-Counted.is (sym c.value_width.ensures ∙ c.in-Some.is) c.residues.ensures.values c.residues.ensures.all c.valued.ensures
 
 pub returns-in-None : goal.returns-in-None
 returns-in-None c =
     no_units c.args.self.now.desc.now c.args.unit c.in-Counted.m c.in-Counted.field c.in-Counted.c c.args.count
-    c.empty-in-None.result c.in-Counted.is (sym c.in-None.ensures) c.empty-in-None.ensures
+    c.empty-in-None.result c.in-Counted.is (sym c.value_width.ensures ∙ c.in-None.is) c.empty-in-None.ensures

@@ -1,5 +1,5 @@
-use Rattle.csn_look.proofs.Sets.Telling.{low_power, high_power}
-use Rattle.csn_good.proofs.ending.residues.Goals as goal
+use Rattle.csn_equations.proofs.Powers.{low_power, high_power}
+use Rattle.csn_equations.proofs.counts.residues.Goals as goal
 
 pub returns-then-width-lt3-clause-most : goal.returns-then-width-lt3-clause-most
 returns-then-width-lt3-clause-most c = low_power c.args.width c.if-width-lt3.true

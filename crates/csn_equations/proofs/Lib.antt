@@ -1,0 +1,9 @@
+pub mod Powers
+pub mod Late
+pub mod LeastFacts
+pub mod NullableLate
+pub mod EndsLate
+pub mod StartsLate
+pub mod KeysLate
+pub mod FollowLate
+pub mod Small
