@@ -7,6 +7,7 @@ pub mod RepeatSearch
 pub mod KeyOrder
 pub mod TablesMeet
 pub mod OverlapSearch
+pub mod SharedKeys
 pub mod ShorterWords
 pub mod Here
 pub mod Clearing

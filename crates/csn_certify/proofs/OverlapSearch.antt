@@ -178,7 +178,7 @@ module _ (d : DescV) (node : ℕ) (parts : List ℕ) (at : slice_get d.nodes nod
         begun = o.begun;
       }
 
-  conflict_of : (i : ℕ) → Reached d node octet → (o : Overlaps d octet parts i) → IsConflict d 12 (Overlap node octet i o.key_j.j o.word_i o.word_j)
+  pub conflict_of : (i : ℕ) → Reached d node octet → (o : Overlaps d octet parts i) → IsConflict d 12 (Overlap node octet i o.key_j.j o.word_i o.word_j)
   conflict_of i reached o =
       let up = o.key_j.later in
       overlap o.key_i.0 o.mark_j at reached (omega (arith, up)) o.part.is_part o.key_j.part.is_part o.part.real o.key_j.part.real o.key_i.1 o.key_j.key o.begun

@@ -3,6 +3,7 @@
 use Rattle.std.specs.Prelude.{◌≡◌, ◌≢◌, ℕ, ◌<◌, ◌≤◌, ◌⊎◌, List, ◌++◌, length, slice_get, Some}
 use Rattle.csn_desc.specs.Nodes.{DescV}
 use Rattle.csn_look.specs.Keys.{InKeys}
+use Rattle.csn_look.specs.Reached.{Reached}
 use Rattle.csn_look.specs.LookV.{LookV}
 use Rattle.csn_look.specs.LookKeys.{table_at}
 use Rattle.csn_look.specs.KeyMarks.{IsWord, KeysAre, IsKeyOf, BeginsWithKey, StartsKey}
@@ -104,3 +105,9 @@ module _ (d : DescV) (parts : List ℕ) (octet : ℕ) where
 abbrev pub HaveSameTables : LookV → List ℕ → ℕ → ℕ → Type 0
 HaveSameTables look parts octet other =
     (j part : ℕ) → slice_get parts j ≡ Some part → table_at look part octet ≡ table_at look part other
+
+-- and the choice is reached at the other one, which comes before
+pub record IsSameBefore (d : DescV) (look : LookV) (node : ℕ) (parts : List ℕ) (octet other : ℕ) : Type 0 where
+  pub before : other < octet
+  pub reached : Reached d node other
+  pub tables : HaveSameTables look parts octet other

@@ -1,6 +1,6 @@
 //! Conflicts of a choice.
 
-ghost use Rattle.std.specs.Prelude.{◌≡◌, ℕ, ◌<◌, ◌≤◌, ◌↔◌, [], ◌∷◌, length, slice_get, Some, IsTrue, IfSome, IfOk};
+ghost use Rattle.std.specs.Prelude.{◌≡◌, ℕ, ◌<◌, ◌≤◌, ◌↔◌, [], ◌∷◌, length, slice_get, Some, None, IsTrue, IfSome, IfOk};
 ghost use Rattle.csn_desc.specs.declared.node.Node.TheVariants.{Choice};
 ghost use Rattle.csn_look.specs.Reached.{Reached};
 ghost use Rattle.csn_certify.specs.Conflicts.{IsNull, rank_empty_clash, rank_not_firm, rank_octets, rank_two_empty};
@@ -105,11 +105,12 @@ impl Search<'_> {
         Ok(None)
     }
 
-    /// The first overlap or clash of a choice at an octet position.
+    /// The first overlap or clash of a choice at an octet position, where there is none at those before it.
     fn choice_clash_at(&self, alloc: Global, choice: &Alternatives, octet: u8) -> Found
         requires known { IsSurveyed self.now.desc.now self.now.look.now self.now.reach.now }
         requires choice { slice_get self.now.desc.now.nodes choice.now.node ≡ Some (Choice choice.now.parts.now) }
         requires octet { octet ≤ 7 }
+        requires before { (other : ℕ) → other < octet → IsFirstUnder self.now.desc.now (choice.now.node ∷ rank_octets ∷ other ∷ []) None }
         ensures { IfOk result (IsFirstUnder self.now.desc.now (choice.now.node ∷ rank_octets ∷ octet ∷ [])) }
     {
         if !self.reach.reached(choice.node).has(octet) {

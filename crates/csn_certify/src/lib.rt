@@ -21,6 +21,7 @@ mod pick_table;
 mod pick_tables;
 mod plan;
 mod repeats;
+mod same_keys;
 mod search;
 mod steps;
 

@@ -1,6 +1,6 @@
 //! Overlaps of the keys of two alternatives.
 
-ghost use Rattle.std.specs.Prelude.{◌≡◌, ℕ, ◌+◌, ◌<◌, ◌≤◌, ◌↔◌, [], ◌∷◌, slice_get, Some, length, IsTrue, IfOk};
+ghost use Rattle.std.specs.Prelude.{◌≡◌, ℕ, ◌+◌, ◌<◌, ◌≤◌, ◌↔◌, [], ◌∷◌, slice_get, Some, length, None, IsTrue, IfOk};
 ghost use Rattle.csn_desc.specs.declared.node.Node.TheVariants.{Choice};
 ghost use Rattle.csn_look.specs.KeyMarks.{IsWord, KeysAre};
 ghost use Rattle.csn_look.specs.Reached.{Reached};
@@ -17,14 +17,19 @@ use csn_look::{KeySet, KeyTable, Word};
 use std::alloc::Global;
 
 impl Search<'_> {
-    /// The first overlap of two alternatives at an octet position.
+    /// The first overlap of two alternatives at an octet position, where there is no conflict at those before it. Where
+    /// the keys are those of one of these, none is looked for.
     pub fn overlap(&self, alloc: Global, choice: &Alternatives, octet: u8) -> Found
         requires known { IsSurveyed self.now.desc.now self.now.look.now self.now.reach.now }
         requires choice { slice_get self.now.desc.now.nodes choice.now.node ≡ Some (Choice choice.now.parts.now) }
         requires octet { octet ≤ 7 }
         requires reached { Reached self.now.desc.now choice.now.node octet }
+        requires before { (other : ℕ) → other < octet → IsFirstUnder self.now.desc.now (choice.now.node ∷ rank_octets ∷ other ∷ []) None }
         ensures { IfOk result (IsFirstUnder self.now.desc.now (choice.now.node ∷ rank_octets ∷ octet ∷ rank_overlap ∷ [])) }
     {
+        if self.same_before(choice.node, choice.parts, octet).is_some() {
+            return Ok(None);
+        }
         match self.first_overlapping(alloc, choice, octet)? {
             Some(i) => self.overlap_of(alloc, choice, octet, i),
             None => Ok(None),

@@ -1,9 +1,7 @@
 //! The tables of all choices of a description.
 
-ghost use Rattle.std.specs.Prelude.{◌≡◌, ℕ, List, ◌+◌, ◌*◌, ◌<◌, ◌≤◌, ◌++◌, [], ◌∷◌, length, slice_get, slice_set, Some, IsTrue, IfOk, IfSome};
+ghost use Rattle.std.specs.Prelude.{◌≡◌, ℕ, List, ◌+◌, ◌*◌, ◌<◌, ◌≤◌, ◌++◌, [], ◌∷◌, length, slice_get, slice_set, Some, IfOk, IfSome};
 ghost use Rattle.csn_desc.specs.declared.node.Node.TheVariants.{Choice};
-ghost use Rattle.csn_certify.specs.Filling.{HaveSameTables};
-ghost use Rattle.csn_look.specs.Steps.{HasPartsBelow};
 ghost use Rattle.csn_look.specs.NodeSets.{IsLookOf};
 ghost use Rattle.csn_look.specs.LookKeys.{IsKeysOf};
 ghost use Rattle.csn_certify.specs.PickTables.{PickTableV, table_of, HasEntries, IsTableOf, HasNumber, HaveTables, ArePickTables};
@@ -165,12 +163,8 @@ impl PickTables {
         requires before { HaveTables known.now.desc.now (8 * node + octet) self.now }
         ensures { IfSome result (HasNumber known.now.desc.now parts.now octet self.now.tables) }
     {
-        for other in 0..octet {
-            if known.reach.reached(node).has(other) && have_same_keys(known, parts, octet, other) {
-                return Some(self.numbers.as_slice()[place(node, other)]);
-            }
-        }
-        None
+        let other = known.same_before(node, parts, octet)?;
+        Some(self.numbers.as_slice()[place(node, other)])
     }
 
     /// Puts a number at a place.
@@ -210,22 +204,6 @@ fn place(node: u16, octet: u8) -> usize
     ensures { result ≡ 8 * node + octet }
 {
     8 * node as usize + octet as usize
-}
-
-/// Whether the alternatives of a choice have the same keys at two octet positions.
-fn have_same_keys(known: &Search, parts: &Parts, octet: u8, other: u8) -> bool
-    requires known { IsSurveyed known.now.desc.now known.now.look.now known.now.reach.now }
-    requires below { HasPartsBelow (Choice parts.now) (length known.now.desc.now.nodes) }
-    requires octet { octet ≤ 7 }
-    requires other { other ≤ 7 }
-    ensures { IsTrue result → HaveSameTables known.now.look.now parts.now octet other }
-{
-    for j in 0..parts.len() {
-        if !known.look.same_keys(parts.get(j), octet, other) {
-            return false;
-        }
-    }
-    true
 }
 
 /// As many numbers as there are nodes and octet positions.

@@ -19,3 +19,6 @@ loop-octet-preserved c =
 pub returns : goal.returns
 returns c = octets_end c.args.self.now.desc.now c.args.choice.now.node c.args.choice.now.parts.now c.requires.choice
     c.loop-octet.octet (omega (arith, c.loop-octet-test.false)) c.loop-octet.invariant
+
+pub choice_clash_at-requires-clause-before : goal.choice_clash_at-requires-clause-before
+choice_clash_at-requires-clause-before c = c.loop-octet.invariant

@@ -1,6 +1,6 @@
 use Rattle.std.proofs.Common.{arith}
 use Rattle.csn_certify.proofs.SearchFacts.{in_table}
-use Rattle.csn_certify.proofs.pick_tables.have_same_keys.Goals as goal
+use Rattle.csn_certify.proofs.same_keys.have_same_keys.Goals as goal
 
 pub get-requires : goal.get-requires
 get-requires c = omega (arith, c.len-j-end.ensures.len, c.loop-j-test.true)
