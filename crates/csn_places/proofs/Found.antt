@@ -1,42 +1,51 @@
 -- What the walk through the asked rule adds is where the nodes of its description stand.
-use Rattle.std.proofs.Common.{◌≡◌, ℕ, Bool, List, [], ◌++◌, length, map, sym, ◌∙◌, ap, arith, Some, Result, Ok, Err}
+use Rattle.std.proofs.Common.{◌≡◌, ◌↔◌, ◌⊎◌, inl, inr, ℕ, Bool, true, false, IsTrue, List, [], ◌++◌, length, map, refl, sym, ◌∙◌, ap, subst, arith, Some, Result, Ok, Err}
 use Rattle.std.specs.Prelude.{IfOk}
 use Rattle.std.proofs.lemmas.List.{length-map}
 use Rattle.csn_desc.specs.declared.reading.Reading.{Reading}
 use Rattle.csn_desc.specs.Nodes.{DescV}
 use Rattle.csn_grammar.specs.declared.rules.Rule.{Rule}
+use Rattle.csn_grammar.specs.ExprV.{ExprV}
 use Rattle.csn_grammar.specs.RulesV.{RulesV}
 use Rattle.csn_grammar.specs.Names.{rule_of}
 use Rattle.csn_grammar.proofs.VoidFacts.{same_rule}
 use Rattle.csn_resolve.specs.Gives.{Placed}
-use Rattle.csn_resolve.specs.Marked.{marked}
-use Rattle.csn_resolve.specs.Tests.{is_void}
+use Rattle.csn_resolve.specs.Laws.{EmptinessIsDecided}
 use Rattle.csn_resolve.proofs.ResolveFacts.{rule_quiet}
 use Rattle.csn_places.specs.declared.origin.Origin.{Origin}
-use Rattle.csn_places.specs.Marked.{AreLeast}
-use Rattle.csn_places.specs.Origins.{rule_origins, named_at}
+use Rattle.csn_places.specs.Origins.{Tells, rule_origins, named_at}
 use Rattle.csn_places.specs.Places.{ArePlaces, AreOrigins, OriginsArePlaces}
-use Rattle.csn_places.proofs.VoidFacts.{found_void, void_is_found}
 use Rattle.csn_places.proofs.Given.{rule_given}
 
+-- whether an expression is empty of strings, as a test
+abbrev test_of : {P : Type 0} → P ⊎ (P → ⊥) → Bool
+test_of (inl holds) = true
+test_of (inr fails) = false
+
+test_told : {P : Type 0} (o : P ⊎ (P → ⊥)) → IsTrue (test_of o) ↔ P
+test_told (inl holds) = (λ p. holds, λ q. refl)
+test_told (inr fails) = (λ p. absurd (cc), λ q. absurd (fails q))
+
 -- the origins of a rule in a reading
-abbrev pub of_rule : RulesV → List Bool → Reading → List ℕ → Rule → List Origin
-of_rule rules marks r round rule =
-    rule_origins r (is_void r (marked rules marks)) round (named_at rules r (is_void r (marked rules marks)) 64 round) rule
+abbrev pub of_rule : RulesV → (ExprV → Bool) → Reading → List ℕ → Rule → List Origin
+of_rule rules void r round rule = rule_origins r void round (named_at rules r void 64 round) rule
 
 pub are_origins :
-    (rules : RulesV) (n : List ℕ) (d : DescV) (marks : List Bool) (rule : Rule) (r : Reading) (round : List ℕ) (old new : List Origin)
-    → AreLeast rules d.reading marks → rule_of rules n ≡ Some rule → r ≡ d.reading → round ≡ [] → old ≡ []
-    → new ≡ old ++ of_rule rules marks r round rule → AreOrigins rules n d new
-are_origins rules n d marks rule r round old new least at same none begun added =
+    (rules : RulesV) (n : List ℕ) (d : DescV) (rule : Rule) (r : Reading) (round : List ℕ) (old new : List Origin)
+    → EmptinessIsDecided → rule_of rules n ≡ Some rule → r ≡ d.reading → round ≡ [] → old ≡ []
+    → ((void : ExprV → Bool) → Tells rules r void → new ≡ old ++ of_rule rules void r round rule) → AreOrigins rules n d new
+are_origins rules n d rule r round old new decided at same none begun added =
+    let void : ExprV → Bool = λ x. test_of (decided rules d.reading x) in
+    let told : Tells rules d.reading void = λ x. test_told (decided rules d.reading x) in
+    let Q : Reading → Type 0 = λ z. Tells rules z void in
     record {
-      void = is_void d.reading (marked rules marks);
-      told = λ x. (λ p. found_void rules marks d.reading x least.sound p, λ v. void_is_found rules marks d.reading x least.closed v);
+      void = void;
+      told = told;
       rule = rule;
       found = at;
-      are = added
-          ∙ (ap (λ l. l ++ of_rule rules marks r round rule) begun
-          ∙ (ap (λ z. of_rule rules marks z round rule) same ∙ ap (λ z. of_rule rules marks d.reading z rule) none));
+      are = added void (subst Q (sym same) told)
+          ∙ (ap (λ l. l ++ of_rule rules void r round rule) begun
+          ∙ (ap (λ z. of_rule rules void z round rule) same ∙ ap (λ z. of_rule rules void d.reading z rule) none));
     }
 
 pub origins_are_places : OriginsArePlaces

@@ -1,4 +1,3 @@
-pub mod VoidFacts
 pub mod Given
 pub mod WalkFacts
 pub mod Found

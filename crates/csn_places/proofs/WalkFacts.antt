@@ -46,7 +46,10 @@ module _ (void : ExprV → Bool) where
       → kept_in void (branches_of (drop i bs)) ≡ one_if (is_kept void b) + kept_in void (branches_of (drop (i + 1) bs))
   kept-next bs i b here = ap (λ l. kept_in void (branches_of l)) (drop_at bs i b here)
 
-module _ (r : Reading) (void : ExprV → Bool) (round : List ℕ) (names : List ℕ → ℕ → List Origin) where
+module _ (rules : RulesV) (r : Reading) (void : ExprV → Bool) (left : ℕ) (round : List ℕ) where
+  abbrev names : List ℕ → ℕ → List Origin
+  names = named_at rules r void left round
+
   -- an expression of which a level is known
   pub adds-form :
       (x y : ExprV) (old new : List Origin) → x ≡ y

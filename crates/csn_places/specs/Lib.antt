@@ -1,5 +1,3 @@
-pub mod Views
 pub mod Depths
-pub mod Marked
 pub mod Origins
 pub mod Places

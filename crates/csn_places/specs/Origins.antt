@@ -1,7 +1,7 @@
 -- Where the nodes of an expression come from, in the order of their numbers: each at the first byte of the part
 -- that gives it, and inside the names that are put in round that part. A list for each form, by the lists of its
 -- parts; which parts give nodes is told by csn_resolve's `Gives`.
-use Rattle.std.specs.Prelude.{ℕ, zero, suc, ◌+◌, Bool, true, false, if◌then◌else◌, List, [], ◌∷◌, ◌++◌, Option, Some, None, is_some}
+use Rattle.std.specs.Prelude.{◌↔◌, IsTrue, ℕ, zero, suc, ◌+◌, Bool, true, false, if◌then◌else◌, List, [], ◌∷◌, ◌++◌, Option, Some, None, is_some}
 use Rattle.csn_desc.specs.declared.reading.Reading.{Reading}
 use Rattle.csn_desc.specs.declared.reading.Reading.TheVariants.{Received, Sent}
 use Rattle.csn_grammar.specs.declared.exponent.Exponent.{Exponent}
@@ -13,6 +13,7 @@ use Rattle.csn_grammar.specs.RulesV.{RulesV}
 use Rattle.csn_grammar.specs.Names.{rule_of}
 use Rattle.csn_grammar.specs.Forms.{unit_of, is_bit, width_of}
 use Rattle.csn_grammar.specs.TailForm.{TailV, tail_of}
+use Rattle.csn_grammar.specs.Void.{Void}
 use Rattle.csn_resolve.specs.Gives.{start_of}
 use Rattle.csn_places.specs.declared.origin.Origin.{Origin}
 
@@ -29,6 +30,10 @@ is_one_node x k = is_some (unit_of x)
 abbrev pub choice_origins : ℕ → List ℕ → ℕ → List Origin → List Origin
 choice_origins place round (suc zero) inner = inner
 choice_origins place round _ inner = at place round ∷ inner
+
+-- a test tells which expressions are empty of strings in a reading
+abbrev pub Tells : RulesV → Reading → (ExprV → Bool) → Type 0
+Tells rules r void = (x : ExprV) → IsTrue (void x) ↔ Void rules r x
 
 -- is an alternative kept, by the test of what is empty of strings?
 abbrev pub is_kept : (ExprV → Bool) → BranchV → Bool

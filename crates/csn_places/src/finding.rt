@@ -2,13 +2,12 @@ ghost use Rattle.std.specs.Prelude.{◌≡◌, length, IfOk};
 ghost use Rattle.csn_resolve.specs.Resolved.{IsResolved};
 ghost use Rattle.csn_places.specs.Places.{ArePlaces, AreOrigins};
 
-use crate::names::Names;
 use crate::origin::{Origin, PutIn};
-use crate::void::void_marks;
 use crate::walk::Walker;
 use csn_bits::NoMemory;
 use csn_desc::Desc;
 use csn_grammar::Rules;
+use csn_resolve::{Marks, Names, Test};
 use std::alloc::Global;
 
 /// The most names that are put in inside one another.
@@ -47,16 +46,17 @@ fn origins_by(
         unreachable!()
     };
     let reading = desc.reading();
-    let marks = void_marks(alloc, names, reading)?;
+    let void = Marks::new(alloc, names, Test::Void(reading))?;
     let walker = Walker {
         alloc,
         names,
         reading,
-        marks: marks.as_slice(),
+        void: &void,
     };
     let rule = names.rule(number);
     let round = PutIn::new(alloc);
     let mut found = Vec::new(alloc);
+    csn_resolve::laws::walks_end();
     walker.walk_rule(MOST_NAMES, &round, rule, &mut found)?;
     Ok(found)
 }

@@ -4,10 +4,7 @@
 mod finding;
 mod form;
 pub mod laws;
-mod names;
 mod origin;
-mod tail;
-mod void;
 mod walk;
 
 pub use finding::origins;

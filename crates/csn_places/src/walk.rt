@@ -1,20 +1,18 @@
 //! The walk through a rule with names put in, in the order in which its nodes are numbered.
 
-ghost use Rattle.std.specs.Prelude.{◌≡◌, ◌≤◌, ◌++◌, [], take, length, OnOk};
-ghost use Rattle.csn_grammar.specs.ExprV.{exprs_of, branches_of};
-ghost use Rattle.csn_resolve.specs.Marked.{marked};
-ghost use Rattle.csn_resolve.specs.Tests.{is_void};
-ghost use Rattle.csn_places.specs.Origins.{origins, items_origins, branches_origins, choice_origins, is_kept, kept_in, named_at, rule_origins, tail_origins};
-ghost use Rattle.csn_places.specs.Views.{tail_view};
+ghost use Rattle.std.specs.Prelude.{◌≡◌, ◌≤◌, ◌++◌, Bool, take, length, OnOk};
+ghost use Rattle.csn_grammar.specs.ExprV.{ExprV, exprs_of, branches_of};
+ghost use Rattle.csn_resolve.specs.declared.marks.Test.TheVariants.{Void};
+ghost use Rattle.csn_resolve.specs.Views.{tail_view};
+ghost use Rattle.csn_places.specs.Origins.{Tells, origins, items_origins, branches_origins, choice_origins, is_kept, kept_in};
+ghost use Rattle.csn_places.specs.Origins.{named_at, rule_origins, tail_origins};
 
 use crate::form::{is_one_node, is_width};
-use crate::names::Names;
 use crate::origin::{Origin, PutIn, push_origin, with_name};
-use crate::tail::{Tail, tail_of};
-use crate::void::is_void;
 use csn_bits::NoMemory;
 use csn_desc::{Label, Reading};
 use csn_grammar::{Branch, Branches, Expr, Exprs, Form, Rule};
+use csn_resolve::{Marks, Names, Tail, tail_of};
 use std::alloc::Global;
 
 /// Nothing but want of memory keeps origins from being added.
@@ -26,17 +24,17 @@ pub(crate) struct Walker<'a> {
     pub alloc: Global,
     pub names: &'a Names<'a>,
     pub reading: Reading,
-    pub marks: &'a [bool],
-    ghost long: { length marks.now ≡ length names.now },
+    pub void: &'a Marks<'a>,
+    ghost marks: { void.now ≡ record { rules = names.now; test = Void reading } },
 }
 
 impl<'a> Walker<'a> {
     /// Adds the origins of the nodes of an expression that these names are put in round; `left` more may be.
     #[cycle(walk)]
     pub(crate) fn walk(&self, left: u8, round: &PutIn, x: &Expr, out: &mut Vec<Origin>) -> Added
-        ensures { OnOk result (out.new.items ≡ out.old.items
-            ++ origins self.now.reading (is_void self.now.reading (marked self.now.names.now self.now.marks.now)) round.now
-            (named_at self.now.names.now self.now.reading (is_void self.now.reading (marked self.now.names.now self.now.marks.now)) left round.now)
+        ensures { OnOk result ((void : ExprV → Bool) → Tells self.now.names.now self.now.reading void → out.new.items ≡ out.old.items
+            ++ origins self.now.reading void round.now
+            (named_at self.now.names.now self.now.reading void left round.now)
             x.now) }
     {
         let place = x.span.start;
@@ -93,9 +91,9 @@ impl<'a> Walker<'a> {
         out: &mut Vec<Origin>,
     ) -> Added
         requires within { count ≤ length items.now }
-        ensures { OnOk result (out.new.items ≡ out.old.items
-            ++ items_origins self.now.reading (is_void self.now.reading (marked self.now.names.now self.now.marks.now)) round.now
-            (named_at self.now.names.now self.now.reading (is_void self.now.reading (marked self.now.names.now self.now.marks.now)) left round.now)
+        ensures { OnOk result ((void : ExprV → Bool) → Tells self.now.names.now self.now.reading void → out.new.items ≡ out.old.items
+            ++ items_origins self.now.reading void round.now
+            (named_at self.now.names.now self.now.reading void left round.now)
             (exprs_of (take count items.now))) }
     {
         for at in 0..count {
@@ -114,11 +112,11 @@ impl<'a> Walker<'a> {
         branches: &Branches,
         out: &mut Vec<Origin>,
     ) -> Added
-        ensures { OnOk result (out.new.items ≡ out.old.items
+        ensures { OnOk result ((void : ExprV → Bool) → Tells self.now.names.now self.now.reading void → out.new.items ≡ out.old.items
             ++ choice_origins place round.now
-            (kept_in (is_void self.now.reading (marked self.now.names.now self.now.marks.now)) (branches_of branches.now))
-            (branches_origins self.now.reading (is_void self.now.reading (marked self.now.names.now self.now.marks.now)) round.now
-            (named_at self.now.names.now self.now.reading (is_void self.now.reading (marked self.now.names.now self.now.marks.now)) left round.now)
+            (kept_in void (branches_of branches.now))
+            (branches_origins self.now.reading void round.now
+            (named_at self.now.names.now self.now.reading void left round.now)
             (branches_of branches.now))) }
     {
         if self.kept_in(branches) != 1 {
@@ -136,9 +134,9 @@ impl<'a> Walker<'a> {
         branches: &Branches,
         out: &mut Vec<Origin>,
     ) -> Added
-        ensures { OnOk result (out.new.items ≡ out.old.items
-            ++ branches_origins self.now.reading (is_void self.now.reading (marked self.now.names.now self.now.marks.now)) round.now
-            (named_at self.now.names.now self.now.reading (is_void self.now.reading (marked self.now.names.now self.now.marks.now)) left round.now)
+        ensures { OnOk result ((void : ExprV → Bool) → Tells self.now.names.now self.now.reading void → out.new.items ≡ out.old.items
+            ++ branches_origins self.now.reading void round.now
+            (named_at self.now.names.now self.now.reading void left round.now)
             (branches_of branches.now)) }
     {
         for at in 0..branches.len() {
@@ -161,8 +159,8 @@ impl<'a> Walker<'a> {
         label: &Label,
         out: &mut Vec<Origin>,
     ) -> Added
-        ensures { OnOk result (out.new.items ≡ out.old.items
-            ++ named_at self.now.names.now self.now.reading (is_void self.now.reading (marked self.now.names.now self.now.marks.now)) left round.now
+        ensures { OnOk result ((void : ExprV → Bool) → Tells self.now.names.now self.now.reading void → out.new.items ≡ out.old.items
+            ++ named_at self.now.names.now self.now.reading void left round.now
             label.now place) }
     {
         match self.names.number(label.bytes()) {
@@ -186,9 +184,9 @@ impl<'a> Walker<'a> {
         rule: &Rule,
         out: &mut Vec<Origin>,
     ) -> Added
-        ensures { OnOk result (out.new.items ≡ out.old.items
-            ++ rule_origins self.now.reading (is_void self.now.reading (marked self.now.names.now self.now.marks.now)) round.now
-            (named_at self.now.names.now self.now.reading (is_void self.now.reading (marked self.now.names.now self.now.marks.now)) left round.now)
+        ensures { OnOk result ((void : ExprV → Bool) → Tells self.now.names.now self.now.reading void → out.new.items ≡ out.old.items
+            ++ rule_origins self.now.reading void round.now
+            (named_at self.now.names.now self.now.reading void left round.now)
             rule.now) }
     {
         match tail_of(rule) {
@@ -209,9 +207,9 @@ impl<'a> Walker<'a> {
         out: &mut Vec<Origin>,
     ) -> Added
         requires within { tail.count ≤ length tail.items.now }
-        ensures { OnOk result (out.new.items ≡ out.old.items
-            ++ tail_origins self.now.reading (is_void self.now.reading (marked self.now.names.now self.now.marks.now)) round.now
-            (named_at self.now.names.now self.now.reading (is_void self.now.reading (marked self.now.names.now self.now.marks.now)) left round.now)
+        ensures { OnOk result ((void : ExprV → Bool) → Tells self.now.names.now self.now.reading void → out.new.items ≡ out.old.items
+            ++ tail_origins self.now.reading void round.now
+            (named_at self.now.names.now self.now.reading void left round.now)
             place (tail_view tail.entry)) }
     {
         push_origin(self.alloc, round, place, out)?;
@@ -225,7 +223,7 @@ impl<'a> Walker<'a> {
 
     /// How many alternatives are kept.
     fn kept_in(&self, branches: &Branches) -> u32
-        ensures { result ≡ kept_in (is_void self.now.reading (marked self.now.names.now self.now.marks.now)) (branches_of branches.now) }
+        ensures { (void : ExprV → Bool) → Tells self.now.names.now self.now.reading void → result ≡ kept_in void (branches_of branches.now) }
     {
         let mut kept = 0;
         for at in 0..branches.len() {
@@ -239,8 +237,8 @@ impl<'a> Walker<'a> {
 
     /// Whether an alternative is kept: it does not stand behind `!`, and is not empty of strings.
     fn is_kept(&self, branch: &Branch) -> bool
-        ensures { result ≡ is_kept (is_void self.now.reading (marked self.now.names.now self.now.marks.now)) branch.now }
+        ensures { (void : ExprV → Bool) → Tells self.now.names.now self.now.reading void → result ≡ is_kept void branch.now }
     {
-        !branch.error && !is_void(self.reading, self.names, self.marks, &branch.body)
+        !branch.error && !self.void.pass(&branch.body)
     }
 }

@@ -1,5 +1,5 @@
--- How far a walk comes over steps, where so many nodes were begun before: up to the first refusal. These are
--- words of the private functions that walk; no public clause cites them.
+-- How far a walk comes over steps, where so many nodes were begun before: up to the first refusal. `Names::list`
+-- says by `way` and `Stops` which rule it refuses; the others are words of the private functions that walk.
 use Rattle.std.specs.Prelude.{◌≡◌, ℕ, suc, Bool, ◌==◌, if◌then◌else◌, is_some, List, [], ◌∷◌, Result, Ok, MatchResult}
 use Rattle.csn_desc.specs.declared.reading.Reading.{Reading}
 use Rattle.csn_grammar.specs.declared.exponent.Exponent.{Exponent}

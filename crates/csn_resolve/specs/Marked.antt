@@ -1,5 +1,5 @@
--- Rules that are marked as passing a test. These are words of the private functions that mark them; no public
--- clause cites them.
+-- Rules that are marked as passing a test. `MarksV` and `Passes` are what the users of marks see; the others are
+-- words of the private functions that mark.
 use Rattle.std.specs.Prelude.{◌≡◌, ℕ, suc, Bool, true, false, List, [], ◌∷◌, length, slice_get, Option, Some, None}
 use Rattle.csn_desc.specs.declared.reading.Reading.{Reading}
 use Rattle.csn_desc.specs.declared.reading.Reading.TheVariants.{Sent}

@@ -1,5 +1,4 @@
--- The number of the rule that has a name. These are words of the private functions that look names up; no
--- public clause cites them.
+-- The number of the rule that has a name, from 0.
 use Rattle.std.specs.Prelude.{◌≡◌, ◌≤◌, ℕ, false, if◌then◌else◌, List, length, map, Option, None}
 use Rattle.std.specs.Borrow.{Bor}
 use Rattle.std.specs.List.{position_from, list_any}

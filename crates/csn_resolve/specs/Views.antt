@@ -1,5 +1,4 @@
--- What the contracts of the private functions that walk see of the values that they pass on; no public clause
--- cites it.
+-- What the contracts of the functions that walk see of the values that they pass on.
 use Rattle.std.specs.Prelude.{ℕ, List, [], ◌∷◌, Option, Some, None, take}
 use Rattle.std.specs.Borrow.{Bor}
 use Rattle.csn_desc.specs.declared.reading.Reading.{Reading}

@@ -6,7 +6,7 @@ ghost use Rattle.csn_resolve.specs.Views.{width_view, window_view};
 use csn_grammar::{Exponent, Expr, Form};
 
 /// How many bits `bit` and `octet` are.
-pub(crate) fn unit_of(x: &Expr) -> Option<u8>
+pub fn unit_of(x: &Expr) -> Option<u8>
     ensures { result ≡ unit_of x.now }
 {
     match &x.form {
@@ -18,13 +18,13 @@ pub(crate) fn unit_of(x: &Expr) -> Option<u8>
 
 /// A number of units, of one bit or of eight: one, or as many as the exponent says.
 #[derive(Clone, Copy)]
-pub(crate) struct Width<'a> {
+pub struct Width<'a> {
     pub unit: u8,
     pub count: Option<&'a Exponent>,
 }
 
 /// The width of a field: of `bit` and `octet`, bare or with a number exponent.
-pub(crate) fn width_of<'a>(x: &'a Expr) -> Option<Width<'a>>
+pub fn width_of<'a>(x: &'a Expr) -> Option<Width<'a>>
     ensures { option_map width_view result ≡ width_of x.now }
 {
     match &x.form {

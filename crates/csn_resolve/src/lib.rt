@@ -23,5 +23,9 @@ mod walker;
 mod why;
 
 pub use fault::ResolveFault;
+pub use form::{Width, unit_of, width_of};
+pub use marks::{Marks, Test};
+pub use names::Names;
 pub use resolving::resolve;
+pub use tail::{End, Tail, Word, tail_of};
 pub use why::Why;

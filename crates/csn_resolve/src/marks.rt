@@ -15,7 +15,7 @@ use std::marker::Model;
 
 /// What is asked of an expression in one reading.
 #[derive(Clone, Copy)]
-pub(crate) enum Test {
+pub enum Test {
     /// Is it empty of strings?
     Void(Reading),
     /// Is it a field of constant width, of 1 to 16 bits?
@@ -24,7 +24,7 @@ pub(crate) enum Test {
 
 /// The rules whose expressions pass a test. A contract sees the rules and the test.
 #[derive(Drop)]
-pub(crate) struct Marks<'a> {
+pub struct Marks<'a> {
     names: &'a Names<'a>,
     test: Test,
     marks: Vec<bool>,
@@ -48,11 +48,7 @@ impl<'a> Marks<'a> {
     /// The marks of rules for a test. Rules are asked until none more passes: the time is that of at most
     /// as many rounds through all rules as some rule stands on others, one round more, and the last rule
     /// is asked first, so that two rounds do where rules stand before those that they use.
-    pub(crate) fn new(
-        alloc: Global,
-        names: &'a Names<'a>,
-        test: Test,
-    ) -> Result<Marks<'a>, NoMemory>
+    pub fn new(alloc: Global, names: &'a Names<'a>, test: Test) -> Result<Marks<'a>, NoMemory>
         ensures { IfOk result (λ marks. marks ≡ record { rules = names.now; test = test }) }
     {
         let mut marks = Vec::new(alloc);
@@ -64,7 +60,7 @@ impl<'a> Marks<'a> {
     }
 
     /// Whether an expression passes.
-    pub(crate) fn pass(&self, x: &Expr) -> bool
+    pub fn pass(&self, x: &Expr) -> bool
         ensures { IsTrue result ↔ Passes self.now.rules self.now.test x.now }
     {
         passes(self.names, self.test, self.marks.as_slice(), x)

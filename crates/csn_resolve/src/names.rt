@@ -23,7 +23,7 @@ pub(crate) fn is_built_in(name: &[u8]) -> bool
 /// The rules of a description by their names, of which no two are the same and none is built in. A
 /// contract sees the rules.
 #[derive(Drop)]
-pub(crate) struct Names<'a> {
+pub struct Names<'a> {
     rules: &'a Rules,
     numbers: IndexSet<&'a [u8]>,
 }
@@ -44,7 +44,7 @@ impl<'a> Model for Names<'a> {
 impl<'a> Names<'a> {
     /// The names of rules. The first rule that has the name of an earlier one, or one that is built in, is
     /// refused, and nothing else is.
-    pub(crate) fn list(alloc: Global, rules: &'a Rules) -> Result<Names<'a>, ResolveFault>
+    pub fn list(alloc: Global, rules: &'a Rules) -> Result<Names<'a>, ResolveFault>
         ensures names { IfOk result (λ names. names ≡ rules.now) }
         ensures shaped { AreShaped rules.now }
         ensures twice { MatchResult result
@@ -66,14 +66,14 @@ impl<'a> Names<'a> {
     }
 
     /// How many rules there are.
-    pub(crate) fn len(&self) -> u32
+    pub fn len(&self) -> u32
         ensures { result ≡ length self.now }
     {
         self.rules.len()
     }
 
     /// The number of the rule that a name means, from 0, and none for a name that is built in.
-    pub(crate) fn number(&self, name: &[u8]) -> Option<u32>
+    pub fn number(&self, name: &[u8]) -> Option<u32>
         ensures number { result ≡ number_in self.now name.now }
         ensures within { IfSome result (λ at. at < length self.now) }
         ensures rule { MatchOption result (rule_of self.now name.now ≡ None) (λ at. rule_of self.now name.now ≡ slice_get self.now at) }
@@ -84,8 +84,8 @@ impl<'a> Names<'a> {
         }
     }
 
-    /// The rule with this number.
-    pub(crate) fn rule(&self, at: u32) -> &'a Rule
+    /// The rule with this number, from 0.
+    pub fn rule(&self, at: u32) -> &'a Rule
         requires { at < length self.now }
         ensures { slice_get self.now at ≡ Some result.now }
     {

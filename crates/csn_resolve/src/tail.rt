@@ -7,17 +7,17 @@ ghost use Rattle.csn_resolve.specs.Views.{word_view, end_view, tail_view, name_i
 use csn_desc::{Label, Run};
 use csn_grammar::{Expr, Exprs, Form, Rule};
 
-/// A literal word, and where it begins in the text.
+/// A literal word, and where it begins in the text, in bytes from 0.
 #[derive(Clone, Copy)]
-pub(crate) struct Word<'a> {
+pub struct Word<'a> {
     pub at: u32,
     pub run: &'a Run,
 }
 
-/// How a rule in tail form goes on and stops: where its braces begin in the text, the word before its own
-/// name, and the word that is the other alternative.
+/// How a rule in tail form goes on and stops: where its braces begin in the text, in bytes from 0, the word
+/// before its own name, and the word that is the other alternative.
 #[derive(Clone, Copy)]
-pub(crate) struct End<'a> {
+pub struct End<'a> {
     pub braces: u32,
     pub again: Word<'a>,
     pub stop: Word<'a>,
@@ -25,14 +25,14 @@ pub(crate) struct End<'a> {
 
 /// A rule in tail form: its first `count` items stand before the braces.
 #[derive(Clone, Copy)]
-pub(crate) struct Tail<'a> {
+pub struct Tail<'a> {
     pub items: &'a Exprs,
     pub count: u32,
     pub end: End<'a>,
 }
 
 /// The tail form of a rule, if it is in tail form.
-pub(crate) fn tail_of<'a>(rule: &'a Rule) -> Option<Tail<'a>>
+pub fn tail_of<'a>(rule: &'a Rule) -> Option<Tail<'a>>
     ensures tail { option_map tail_view result ≡ tail_of rule.now }
     ensures within { IfSome result (λ tail. tail.count < length tail.items.now) }
     ensures part { IfSome result (λ tail. list_size tail.items.now + 1 ≡ expr_size rule.now.body) }

@@ -1,8 +1,6 @@
-use Rattle.std.proofs.Common.{◌≡◌, Bool, List, Some, sym, ◌∙◌, subst}
-use Rattle.csn_desc.specs.declared.reading.Reading.{Reading}
+use Rattle.std.proofs.Common.{◌≡◌, Some, ◌∙◌}
 use Rattle.csn_grammar.specs.Names.{rule_of}
 use Rattle.csn_resolve.proofs.Basics.Options.{no_none}
-use Rattle.csn_places.specs.Marked.{AreLeast}
 use Rattle.csn_places.proofs.Found.{are_origins}
 use Rattle.csn_places.proofs.finding.origins_by.Goals as goal
 
@@ -12,9 +10,6 @@ unreachable-requires c = no_none c.requires.resolved.given.found c.in_default.en
 pub returns : goal.returns
 returns c =
     let found : rule_of c.args.names.now c.args.name.now ≡ Some c.rule-rule.result.now = c.in-Some.ensures.rule ∙ c.rule-rule.ensures in
-    let P : Reading → Type 0 = λ z. AreLeast c.args.names.now z c.in_ok-marks.marks.items in
-    let Q : List Bool → Type 0 = λ z. AreLeast c.args.names.now c.args.desc.now.reading z in
-    let least = subst Q (sym c.as_slice.ensures.value) (subst P c.reading-reading.ensures c.in_ok-marks.ensures) in
-    are_origins c.args.names.now c.args.name.now c.args.desc.now c.as_slice.result.now c.rule-rule.result.now
-    c.reading-reading.result _ c.new-found.result.items c.walk_rule.new.out.items least found
+    are_origins c.args.names.now c.args.name.now c.args.desc.now c.rule-rule.result.now
+    c.reading-reading.result _ c.new-found.result.items c.walk_rule.new.out.items c.walks_end.ensures.empty found
     c.reading-reading.ensures c.new-round.ensures c.new-found.ensures.items c.in_ok-walk_rule.ensures

@@ -1,10 +1,8 @@
-use Rattle.std.proofs.Common.{◌≡◌, ◌+◌, ◌*◌, ◌++◌, take, drop}
-use Rattle.csn_grammar.specs.ExprV.{exprs_of, branches_of}
+use Rattle.std.proofs.Common.{◌≡◌, ◌+◌, ◌*◌, ◌++◌, Bool, take, drop}
+use Rattle.csn_grammar.specs.ExprV.{ExprV, exprs_of, branches_of}
 use Rattle.csn_grammar.specs.ExprCode.{expr_size, list_size, branch_list_size}
-use Rattle.csn_resolve.specs.Marked.{marked}
-use Rattle.csn_resolve.specs.Tests.{is_void}
 use Rattle.csn_places.specs.Depths.{left_of}
-use Rattle.csn_places.specs.Origins.{items_origins, branches_origins, named_at}
+use Rattle.csn_places.specs.Origins.{Tells, items_origins, branches_origins, named_at}
 use Rattle.csn_places.proofs.walk.Walker.+walk.Given as goal
 
 abbrev pub decreases-walk : goal.decreases-walk
@@ -30,18 +28,18 @@ decreases-walk_tail l = 2 * left_of l.self.now.names.now l.left (list_size l.tai
 
 abbrev pub invariant-walk_branches-loop-at : goal.invariant-walk_branches-loop-at
 invariant-walk_branches-loop-at l =
-    l.out.items ++ branches_origins l.self.reading (is_void l.self.reading (marked l.self.names.now l.self.marks.now)) l.round
-    (named_at l.self.names.now l.self.reading (is_void l.self.reading (marked l.self.names.now l.self.marks.now)) l.left l.round)
+    (void : ExprV → Bool) → Tells l.self.names.now l.self.reading void → l.out.items ++ branches_origins l.self.reading void l.round
+    (named_at l.self.names.now l.self.reading void l.left l.round)
     (branches_of (drop l.at l.branches))
-    ≡ l.fn.out.items ++ branches_origins l.self.reading (is_void l.self.reading (marked l.self.names.now l.self.marks.now)) l.round
-    (named_at l.self.names.now l.self.reading (is_void l.self.reading (marked l.self.names.now l.self.marks.now)) l.left l.round)
+    ≡ l.fn.out.items ++ branches_origins l.self.reading void l.round
+    (named_at l.self.names.now l.self.reading void l.left l.round)
     (branches_of l.branches)
 
 abbrev pub invariant-walk_items-loop-at : goal.invariant-walk_items-loop-at
 invariant-walk_items-loop-at l =
-    l.out.items ++ items_origins l.self.reading (is_void l.self.reading (marked l.self.names.now l.self.marks.now)) l.round
-    (named_at l.self.names.now l.self.reading (is_void l.self.reading (marked l.self.names.now l.self.marks.now)) l.left l.round)
+    (void : ExprV → Bool) → Tells l.self.names.now l.self.reading void → l.out.items ++ items_origins l.self.reading void l.round
+    (named_at l.self.names.now l.self.reading void l.left l.round)
     (exprs_of (drop l.at (take l.count l.items)))
-    ≡ l.fn.out.items ++ items_origins l.self.reading (is_void l.self.reading (marked l.self.names.now l.self.marks.now)) l.round
-    (named_at l.self.names.now l.self.reading (is_void l.self.reading (marked l.self.names.now l.self.marks.now)) l.left l.round)
+    ≡ l.fn.out.items ++ items_origins l.self.reading void l.round
+    (named_at l.self.names.now l.self.reading void l.left l.round)
     (exprs_of (take l.count l.items))
