@@ -6,6 +6,7 @@ mod Appending
 mod Fronts
 mod Refusals
 mod Words
+mod Fields
 mod Numbers
 mod Lines
 mod Nodes

@@ -64,7 +64,7 @@ impl Model for Pattern {
         (filled_back p.marks p.len h).1 };
 }
 
-/// Patterns are compared by their texts.
+/// Patterns are compared by their texts, which are equal where their marks and their ends are.
 impl PartialEq for Pattern {
     ghost use Rattle.std.specs.Prelude.{nat_eq};
     ghost use Rattle.std.specs.Cmp.{on_per, partial_equiv_from_equiv};
@@ -75,7 +75,7 @@ impl PartialEq for Pattern {
     ghost laws = { on_per pattern_text (partial_equiv_from_equiv nat_list_eq_equiv) };
 
     fn eq(&self, other: &Pattern) -> bool {
-        self.text().as_slice() == other.text().as_slice()
+        (self.len, self.whole, self.marks) == (other.len, other.whole, other.marks)
     }
 }
 
