@@ -5,7 +5,8 @@ usage: bench/library.py [--archive PATH] [--bin PATH] [--count N] [--seed S]
 
 The archive is crates/csn_c/out/libcsn_c.a and the program crates/csn_cli/out/csn_cli where they are left out. Of two
 entries of the catalogue 2,000 blocks of 22 octets are made of a sample with bits turned, those that the program can
-read. Each row is blocks a second, the best of five runs over N blocks; that of the program holds its start.
+read. Each row is blocks a second, the best of five runs over N blocks; that of the program holds its start. A line tells
+how often judge, tell and show of C ask for memory behind the first block, and then as all blocks come again.
 """
 import argparse
 import os
@@ -115,7 +116,7 @@ def main():
         with catalogue.open("wb") as out:
             subprocess.run([sys.executable, ROOT / "bench/catalogue.py"], stdout=out, check=True)
         heap = C / "heap.c"
-        subprocess.run(["gcc", "-O2", "-std=c11", "-I", C, C / "tests/speed.c", C / "tests/common.c", heap, archive,
+        subprocess.run(["gcc", "-O2", "-std=c11", "-I", C, C / "tests/speed.c", C / "tests/common.c", archive,
                         "-o", room / "speed"], check=True)
         subprocess.run(["gcc", "-shared", "-fPIC", "-I", C, "-o", room / "libcsn.so", "-Wl,--whole-archive", archive,
                         "-Wl,--no-whole-archive", heap, f"-Wl,--version-script={C / 'csn.map'}"], check=True)
@@ -130,9 +131,11 @@ def main():
             blocks = made_blocks(program, catalogue, name, sample, rng)
             print(f"| {word}, blocks a second | " + " | ".join(CALLS) + " |\n|---" + "|---" * len(CALLS) + "|")
             print(row("csn_cli", by_program(program, catalogue, name, blocks, options.count)), flush=True)
-            print(row("C", by_speed([room / "speed"], catalogue, name, blocks, options.count)), flush=True)
+            in_c = by_speed([room / "speed"], catalogue, name, blocks, options.count)
+            print(row("C", in_c), flush=True)
             print(row("Rust", by_speed(in_rust, catalogue, name, blocks, options.count, **where)), flush=True)
             print(row("Python", by_python(catalogue, name, blocks, options.count // 10)), flush=True)
+            print(f"memory asked for in C: {in_c['taken']:.0f} times behind the first block, then {in_c['again']:.0f}", flush=True)
 
 
 if __name__ == "__main__":

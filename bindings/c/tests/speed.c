@@ -3,7 +3,8 @@
  * usage: speed FILE NAME READING COUNT < BLOCKS
  *
  * BLOCKS are lines of hexadecimal digits, whole octets, that the rule has; they are gone through again until COUNT blocks are
- * done. Prints a line for each call, with the best of five runs. */
+ * done. Prints a line for each call, with the best of five runs. Before them `taken` has how often judge, tell and show ask for
+ * memory behind the first block, and `again` how often they do as all blocks come a second time. */
 #define _POSIX_C_SOURCE 200809L
 #include "common.h"
 #include <stdio.h>
@@ -25,6 +26,33 @@ static csn_rule rule = {0};
 static csn_stream stream = {0};
 static uint8_t out[MOST_TEXT];
 static csn_event events[MOST_EVENTS];
+
+/* How often the library has asked for memory, which it has from malloc. */
+static size_t asked = 0;
+static char nothing;
+
+static struct rattle_tried tried(void *p)
+{
+    struct rattle_tried it = {p != NULL, p != NULL ? p : &nothing};
+    asked++;
+    return it;
+}
+
+struct rattle_tried rattle_alloc(size_t n, size_t a)
+{
+    return tried(malloc(n != 0 ? n : a));
+}
+
+struct rattle_tried rattle_realloc(void *p, size_t kept, size_t n, size_t a)
+{
+    (void)kept;
+    return tried(realloc(p, n != 0 ? n : a));
+}
+
+void rattle_dealloc(void *p)
+{
+    free(p);
+}
 
 static double now(void)
 {
@@ -89,6 +117,16 @@ static void time_of(const char *what, uint32_t (*call)(size_t), size_t count)
     printf("%s %.0f\n", what, best);
 }
 
+/* Goes through the blocks from one on by the calls that are to take no memory, and tells how often they ask for some. */
+static void count_asked(const char *what, size_t from)
+{
+    asked = 0;
+    for (size_t i = from; i < block_count; i++)
+        if (judges(i) != CSN_OK || tells(i) != CSN_OK || shows(i) != CSN_OK || shows_json(i) != CSN_OK)
+            odd(what, 1, CSN_OK);
+    printf("%s %zu\n", what, asked);
+}
+
 static bool read_block(void)
 {
     char line[2 * MOST_OCTETS + 2];
@@ -118,6 +156,11 @@ int main(int count, char **words)
     }
     if (block_count == 0)
         return 2;
+    if (compile_file(&text, words[2], words[3], &rule, &why) != CSN_OK || tells(0) != CSN_OK || shows(0) != CSN_OK
+        || shows_json(0) != CSN_OK)
+        return 2;
+    count_asked("taken", 1);
+    count_asked("again", 0);
     time_of("judge", judges, many);
     time_of("pieces", pushes, many);
     time_of("tell", tells, many);
