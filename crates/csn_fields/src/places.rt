@@ -117,6 +117,7 @@ impl<'a> Places<'a> {
     }
 
     /// A node begins.
+    #[inline(always)]
     fn enter(&mut self, i: u16, node: &Node) -> Option<Event>
         ensures places { self.new ≡ entered i node.now self.old }
         ensures event { result ≡ begins_as (kind_of node.now) i (role_in self.old.numbers i self.old.nodes) self.old.place }
@@ -148,6 +149,7 @@ impl<'a> Places<'a> {
     }
 
     /// What node `i` is of the innermost node, in which it begins.
+    #[inline(always)]
     fn begin_part(&mut self, i: u16) -> Role
         ensures role { result ≡ role_in self.old.numbers i self.old.nodes }
         ensures places { self.new ≡ record {
@@ -170,6 +172,7 @@ impl<'a> Places<'a> {
     }
 
     /// The innermost node ends, which is a leaf if it has a kind.
+    #[inline(always)]
     fn leave(&mut self, kind: Option<LeafKind>) -> Option<Event>
         ensures places { self.new ≡ left self.old }
         ensures event { result ≡ ended_in kind self.old.nodes self.old.place self.old.number }
@@ -234,6 +237,7 @@ impl<'a> Places<'a> {
 }
 
 /// One more node is open, where there is room; a description is no deeper than there is.
+#[inline(always)]
 fn put(nodes: &mut ArrayVec<Begun, MOST_DEPTH>, begun: Begun)
     ensures { reverse nodes.new.items ≡ opened_with begun (reverse nodes.old.items) }
 {
@@ -284,6 +288,7 @@ impl OpenNode {
     ghost use Rattle.csn_fields.specs.Places.{ends_as};
 
     /// It ends at a place, where its last 64 bits write a number. It is a leaf if it has a kind.
+    #[inline(always)]
     fn end(self, kind: Option<LeafKind>, place: u32, number: u64) -> Event
         ensures { result ≡ ends_as kind self place number }
     {

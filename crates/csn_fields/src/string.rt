@@ -69,7 +69,7 @@ fn string_with<E: Events, L: Ledger>(
     };
     let mut judge = Judge::new(plan);
     let judged = match judge.feed_to(octets, bits, &mut track, &mut steps) {
-        Verdict::Going => judge.finish_to(&mut track, &mut steps),
+        Verdict::Going => judge.next_block_to(&mut track, &mut steps),
         Verdict::Refused { place } => Judged::Refused { place },
     };
     (track.track.events, judged)

@@ -21,8 +21,8 @@ pub feed_to-requires-clause-fits : goal.feed_to-requires-clause-fits
 feed_to-requires-clause-fits g c =
     subst (λ d. AreOutlines d c.args.alternatives.now.outlines) (sym c.new-judge.ensures.desc) c.requires.numbers.outlines
 
-pub finish_to-judged-requires : goal.finish_to-judged-requires
-finish_to-judged-requires g c =
+pub next_block_to-judged-requires : goal.next_block_to-judged-requires
+next_block_to-judged-requires g c =
     let Track : Type 0 = WholeTrack g.row.E.Denot in
     let takes : Track → Move → Node → Track → Type 0 =
     λ old move node new. Takes {S = g.row.E.Denot} g.E.Events.tells old.track.places old.track.events move node new.track.places new.track.events
@@ -57,9 +57,9 @@ returns-clause-judged g c =
     let P : Verdict → Type 0 = λ v. Judges are_told start fed b v in
     elim c.match-feed_to.branch [
       | in-Going w ↦ rw w.judged-is
-          (judged_at_end are_told (λ around made. Tells fed.desc takes (opened fed) made around c.feed_to.new.track w.finish_to-judged.new.track)
-          c.args.plan.now start fed b w.finish_to-judged.result c.new-judge.ensures.judges c.new-judge.ensures.desc c.feed_to.ensures.desc
-          (subst P w.in-Going.is c.feed_to.ensures.judges) w.finish_to-judged.ensures.ends)
+          (judged_at_end are_told (λ around made. Tells fed.desc takes (opened fed) made around c.feed_to.new.track w.next_block_to-judged.new.track)
+          c.args.plan.now start fed b w.next_block_to-judged.result c.new-judge.ensures.judges c.new-judge.ensures.desc c.feed_to.ensures.desc
+          (subst P w.in-Going.is c.feed_to.ensures.judges) w.next_block_to-judged.ensures.ends)
       | in-Refused w ↦ rw w.judged-is
           (judged_before are_told c.args.plan.now start fed b w.in-Refused.place c.strings_are_followed.ensures c.new-judge.ensures.judges
           c.new-judge.ensures.desc (subst P w.in-Refused.is c.feed_to.ensures.judges))
@@ -80,14 +80,14 @@ returns-clause-told g c = λ ok.
     elim c.match-feed_to.branch [
       | in-Going w ↦
           let Q : Judged → Type 0 = λ j. Ends (λ around made. Tells fed.desc takes
-          (opened fed) made around c.feed_to.new.track w.finish_to-judged.new.track) fed j in
+          (opened fed) made around c.feed_to.new.track w.next_block_to-judged.new.track) fed j in
           rw w.track-is
           (string_told g.E.Events.tells (λ s. s.track.places) (λ s. s.track.events) takes (λ s u move node h. h.0) begun c.feed_to.new.track
-          w.finish_to-judged.new.track
+          w.next_block_to-judged.new.track
           (record { have = c.trees_have_moves.ensures.some; one = c.trees_have_moves.ensures.one; bits = c.meanings_are_bits.ensures.meant })
           c.args.plan.now c.args.alternatives.now.numbers start fed b c.len-count.ensures.description c.len-count.ensures.one_tree
           c.requires.numbers.numbers few c.new.ensures c.new-judge.ensures.judges c.new-judge.ensures.opened c.new-judge.ensures.desc
           c.feed_to.ensures.desc (subst P w.in-Going.is c.feed_to.ensures.judges)
-          (subst Q (sym w.judged-is ∙ ok) w.finish_to-judged.ensures.ends))
+          (subst Q (sym w.judged-is ∙ ok) w.next_block_to-judged.ensures.ends))
       | in-Refused w ↦ let clash : no_string w.in-Refused.place ≡ Ok = sym w.judged-is ∙ ok in absurd (cc)
     ]
