@@ -3,6 +3,9 @@ use crate::event::FlatEvent;
 use csn_fields::{Event, Events};
 use std::marker::Model;
 
+/// How many events there is room for from the first block on, where there is memory.
+const FIRST_ROOM: usize = 256;
+
 /// The events of a block in a list, while there is memory. A contract sees the list, and whether memory was wanting.
 #[derive(Drop)]
 pub(crate) struct EventList {
@@ -27,6 +30,8 @@ impl EventList {
         ensures { result ≡ record { events = []; short = false } }
     {
         events.clear();
+        // where it is refused, each event asks again
+        let _room = events.reserve(FIRST_ROOM);
         EventList {
             events,
             short: false,
@@ -55,9 +60,24 @@ impl EventList {
     fn add(&mut self, event: FlatEvent)
         ensures { AddsEvent event self.old self.new }
     {
-        if !self.short {
-            self.short = self.events.push(event).is_err();
+        if self.short {
+            return;
         }
+        if self.events.len() < self.events.capacity() {
+            self.events.push_reserved(event);
+        } else {
+            self.grow(event);
+        }
+    }
+
+    /// The same where the memory is full. It stands apart, so that the events that have room are told in fewer steps.
+    #[cold]
+    #[inline(never)]
+    fn grow(&mut self, event: FlatEvent)
+        requires { self.old.short ≡ false }
+        ensures { AddsEvent event self.old self.new }
+    {
+        self.short = self.events.push(event).is_err();
     }
 }
 
