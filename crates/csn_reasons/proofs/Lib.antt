@@ -1,2 +1,3 @@
 pub mod Answered
+mod Placed
 mod Spotted

@@ -1,2 +1,5 @@
 pub mod Answers
+pub mod Kinds
+pub mod Paths
 pub mod Spots
+pub mod Told

@@ -1,3 +1,6 @@
+ghost use Rattle.std.specs.Prelude.{◌≡◌};
+ghost use Rattle.csn_reasons.specs.Kinds.{kind_of, kind_word};
+
 use csn_desc::Node;
 
 /// The kinds of node, as they are told.
@@ -19,7 +22,9 @@ pub enum NodeKind {
 
 impl NodeKind {
     /// What a node is.
-    pub(crate) fn of(node: &Node) -> NodeKind {
+    pub(crate) fn of(node: &Node) -> NodeKind
+        ensures { result ≡ kind_of node.now }
+    {
         match node {
             Node::Lits(_) => NodeKind::Literal,
             Node::Spare(_) => NodeKind::Spare,
@@ -38,7 +43,9 @@ impl NodeKind {
     }
 
     /// The word for it.
-    pub fn name(self) -> &'static str {
+    pub fn name(self) -> &'static str
+        ensures { result.now ≡ kind_word self }
+    {
         match self {
             NodeKind::Literal => "literal",
             NodeKind::Spare => "spare",

@@ -1,11 +1,20 @@
 //! The nodes of a description, and what stands round one.
 
+ghost use Rattle.std.specs.Prelude.{◌≡◌, ◌≤◌, [], ◌∷◌, IfOk, length, slice_get};
+ghost use Rattle.std.specs.Option.{option_copied};
+ghost use Rattle.csn_desc.specs.Nodes.{parts_of};
+ghost use Rattle.csn_desc.specs.declared.desc.TheConstants.{MOST_NODES};
+ghost use Rattle.csn_reasons.specs.Paths.{place_among};
+
 use csn_bits::NoMemory;
 use csn_desc::{Desc, MOST_NODES, Node, Parts};
 use std::alloc::Global;
 
 /// A part of a node, by its place among them.
-fn listed(parts: &Parts, at: u16) -> Option<u16> {
+fn listed(parts: &Parts, at: u16) -> Option<u16>
+    ensures part { result ≡ slice_get parts.now at }
+    ensures few { length parts.now ≤ MOST_NODES }
+{
     if at < parts.len() {
         Some(parts.get(at))
     } else {
@@ -14,7 +23,10 @@ fn listed(parts: &Parts, at: u16) -> Option<u16> {
 }
 
 /// A part of a node by its place among its parts, counted from 0.
-pub(crate) fn part_of(node: &Node, at: u16) -> Option<u16> {
+pub(crate) fn part_of(node: &Node, at: u16) -> Option<u16>
+    ensures part { result ≡ slice_get (parts_of node.now) at }
+    ensures few { length (parts_of node.now) ≤ MOST_NODES }
+{
     match node {
         Node::Seq(parts) => listed(parts, at),
         Node::Choice(parts) => listed(parts, at),
@@ -28,12 +40,16 @@ pub(crate) fn part_of(node: &Node, at: u16) -> Option<u16> {
 }
 
 /// The one part of a node.
-fn only(part: u16, at: u16) -> Option<u16> {
+fn only(part: u16, at: u16) -> Option<u16>
+    ensures { result ≡ slice_get (part ∷ []) at }
+{
     if at == 0 { Some(part) } else { None }
 }
 
 /// Which part of a node another one is, counted from 0.
-pub(crate) fn place_in(node: &Node, part: u16) -> u16 {
+pub(crate) fn place_in(node: &Node, part: u16) -> u16
+    ensures { result ≡ place_among part (parts_of node.now) }
+{
     for at in 0..MOST_NODES {
         match part_of(node, at) {
             Some(other) if other == part => return at,
@@ -45,7 +61,9 @@ pub(crate) fn place_in(node: &Node, part: u16) -> u16 {
 }
 
 /// The node with a number, where there is one.
-pub(crate) fn node_at(desc: &Desc, number: u16) -> Option<&Node> {
+pub(crate) fn node_at(desc: &Desc, number: u16) -> Option<&Node>
+    ensures { option_copied result ≡ slice_get desc.now.nodes number }
+{
     if number < desc.len() {
         Some(desc.node(number))
     } else {
@@ -54,19 +72,18 @@ pub(crate) fn node_at(desc: &Desc, number: u16) -> Option<&Node> {
 }
 
 /// For each node the node that it is a part of, and for the root itself.
-pub(crate) fn parents_of(alloc: Global, desc: &Desc) -> Result<Vec<u16>, NoMemory> {
-    let mut parents = Vec::new(alloc);
-    for _ in 0..desc.len() {
-        parents.push(0)?;
-    }
+pub(crate) fn parents_of(alloc: Global, desc: &Desc) -> Result<Vec<u16>, NoMemory>
+    ensures { IfOk result (λ parents. length parents.items ≡ length desc.now.nodes) }
+{
+    let mut parents = vec![in alloc; 0u16; desc.len() as usize]?;
     for number in 0..desc.len() {
-        note_parts(desc.node(number), number, &mut parents);
+        note_parts(desc.node(number), number, parents.as_mut_slice());
     }
     Ok(parents)
 }
 
 /// Notes the parts of a node as such.
-fn note_parts(node: &Node, number: u16, parents: &mut Vec<u16>) {
+fn note_parts(node: &Node, number: u16, parents: &mut [u16]) {
     for at in 0..MOST_NODES {
         let Some(part) = part_of(node, at) else {
             return;

@@ -1,5 +1,8 @@
 //! The path of labels to a node.
 
+ghost use Rattle.std.specs.Prelude.{◌≡◌, ℕ, List, ◌++◌, length, OnOk};
+ghost use Rattle.csn_reasons.specs.Paths.{part_text, path_step};
+
 use crate::nodes::{node_at, place_in};
 use crate::telling::Told;
 use csn_desc::{Desc, Node};
@@ -20,7 +23,10 @@ pub(crate) fn push_path(desc: &Desc, up: &[u16], out: &mut Vec<u8>) -> Told {
 }
 
 /// Writes what a node adds to the path of the node below it.
-fn push_step(node: &Node, below: Option<u16>, begun: usize, out: &mut Vec<u8>) -> Told {
+fn push_step(node: &Node, below: Option<u16>, begun: usize, out: &mut Vec<u8>) -> Told
+    ensures { (front path : List ℕ) → out.old.items ≡ front ++ path → length front ≡ begun
+        → OnOk result (out.new.items ≡ front ++ path_step path node.now below) }
+{
     if let Node::Named { label, .. } = node {
         if out.len() > begun {
             out.push(b'.')?;
@@ -35,7 +41,9 @@ fn push_step(node: &Node, below: Option<u16>, begun: usize, out: &mut Vec<u8>) -
 }
 
 /// Writes which alternative, component or turn of a node a part is.
-fn push_part(node: &Node, part: u16, out: &mut Vec<u8>) -> Told {
+fn push_part(node: &Node, part: u16, out: &mut Vec<u8>) -> Told
+    ensures { OnOk result (out.new.items ≡ out.old.items ++ part_text node.now part) }
+{
     match node {
         Node::Choice(_) => {
             out.push(b'#')?;

@@ -1,8 +1,9 @@
 //! Where places stand in a text.
 
-ghost use Rattle.std.specs.Prelude.{◌≤◌, length, take};
+ghost use Rattle.std.specs.Prelude.{◌≡◌, ◌≤◌, ◌-◌, length, take, drop};
+ghost use Rattle.std.specs.List.{before_first, position_or_len};
 ghost use Rattle.csn_plan.specs.declared.compiling.TheConstants.{MOST_DESCRIPTION};
-ghost use Rattle.csn_reasons.specs.Spots.{IsBehind, IsSpot};
+ghost use Rattle.csn_reasons.specs.Spots.{IsBehind, IsSpot, piece_of, ends_line};
 
 /// Where a byte of a text stands: its line and its column, both counted from 1. A column counts the bytes of
 /// its line.
@@ -52,7 +53,9 @@ fn behind(spot: Spot, byte: u8) -> Spot
 }
 
 /// Some bytes of a text, or none where it has none there.
-pub(crate) fn piece(text: &[u8], from: u32, to: u32) -> &[u8] {
+pub(crate) fn piece(text: &[u8], from: u32, to: u32) -> &[u8]
+    ensures { result.now ≡ piece_of text.now from to }
+{
     match text.get(from as usize..to as usize) {
         Some(bytes) => bytes,
         None => b"",
@@ -60,19 +63,31 @@ pub(crate) fn piece(text: &[u8], from: u32, to: u32) -> &[u8] {
 }
 
 /// The bytes of the line that a place stands in.
-pub(crate) fn line_at(text: &[u8], place: u32, spot: Spot) -> &[u8] {
+pub(crate) fn line_at(text: &[u8], place: u32, spot: Spot) -> &[u8]
+    ensures { result.now ≡ before_first ends_line (drop (place - (spot.column - 1)) text.now) }
+{
     let start = place.saturating_sub(spot.column.saturating_sub(1));
-    let Some(rest) = text.get(start as usize..) else {
-        return b"";
-    };
-    let end = rest
-        .iter()
-        .position(|byte: &u8| *byte == b'\n' || *byte == b'\r');
-    match end {
-        Some(end) => match rest.get(..end) {
-            Some(line) => line,
-            None => rest,
-        },
-        None => rest,
+    match text.get(start as usize..) {
+        Some(rest) => &rest[..line_end(rest)],
+        None => b"",
     }
+}
+
+/// How many bytes stand before the end of the first line.
+fn line_end(text: &[u8]) -> usize
+    ensures { result ≡ position_or_len ends_line text.now }
+{
+    for at in 0..text.len() {
+        if ends_line(text[at]) {
+            return at;
+        }
+    }
+    text.len()
+}
+
+/// Whether a byte ends a line.
+fn ends_line(byte: u8) -> bool
+    ensures { result ≡ ends_line byte }
+{
+    byte == b'\n' || byte == b'\r'
 }

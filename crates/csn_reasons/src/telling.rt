@@ -1,7 +1,9 @@
 //! The lines that tell a fault.
 
-ghost use Rattle.std.specs.Prelude.{◌≤◌, length};
+ghost use Rattle.std.specs.Prelude.{◌≡◌, ◌≤◌, [], ◌∷◌, ◌++◌, codes, length, OnOk};
+ghost use Rattle.std.specs.List.{flat_map};
 ghost use Rattle.csn_plan.specs.declared.compiling.TheConstants.{MOST_DESCRIPTION};
+ghost use Rattle.csn_reasons.specs.Told.{spot_text};
 
 use crate::asked::Asked;
 use crate::spot::{Spot, line_at, spot_of};
@@ -12,7 +14,9 @@ use csn_plan::push_number;
 pub(crate) type Told = Result<(), NoMemory>;
 
 /// Writes pieces one behind the other.
-pub(crate) fn say(out: &mut Vec<u8>, pieces: &[&[u8]]) -> Told {
+pub(crate) fn say(out: &mut Vec<u8>, pieces: &[&[u8]]) -> Told
+    ensures { OnOk result (out.new.items ≡ out.old.items ++ flat_map (λ piece. piece.now) pieces.now) }
+{
     for piece in pieces {
         out.extend_from_slice(piece)?;
     }
@@ -20,13 +24,17 @@ pub(crate) fn say(out: &mut Vec<u8>, pieces: &[&[u8]]) -> Told {
 }
 
 /// Writes words.
-pub(crate) fn words(out: &mut Vec<u8>, text: &str) -> Told {
+pub(crate) fn words(out: &mut Vec<u8>, text: &str) -> Told
+    ensures { OnOk result (out.new.items ≡ out.old.items ++ text.now) }
+{
     out.extend_from_slice(text.as_bytes())?;
     Ok(())
 }
 
 /// Writes `FILE:LINE:COLUMN`.
-fn say_spot(out: &mut Vec<u8>, asked: Asked<'_>, spot: Spot) -> Told {
+fn say_spot(out: &mut Vec<u8>, asked: Asked<'_>, spot: Spot) -> Told
+    ensures { OnOk result (out.new.items ≡ out.old.items ++ spot_text asked.entry.file.now spot.line spot.column) }
+{
     out.extend_from_slice(asked.file.as_bytes())?;
     out.push(b':')?;
     push_number(out, spot.line)?;
@@ -63,7 +71,9 @@ fn show_line(out: &mut Vec<u8>, line: &[u8], column: u32) -> Told {
 }
 
 /// Writes a further line.
-pub(crate) fn more(out: &mut Vec<u8>, pieces: &[&[u8]]) -> Told {
+pub(crate) fn more(out: &mut Vec<u8>, pieces: &[&[u8]]) -> Told
+    ensures { OnOk result (out.new.items ≡ out.old.items ++ codes "  " ++ flat_map (λ piece. piece.now) pieces.now ++ 10 ∷ []) }
+{
     out.extend_from_slice(b"  ")?;
     say(out, pieces)?;
     out.push(b'\n')?;

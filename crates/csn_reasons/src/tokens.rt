@@ -1,6 +1,6 @@
 //! The tokens of a text, and what is seen in them where they are no rules.
 
-ghost use Rattle.std.specs.Prelude.{◌≤◌, length};
+ghost use Rattle.std.specs.Prelude.{◌≡◌, ◌≤◌, length, option_map, slice_get, unwrap_or};
 ghost use Rattle.csn_lexer.specs.declared.token.TheConstants.{MOST_TEXT};
 
 use crate::spot::piece;
@@ -24,7 +24,9 @@ pub(crate) fn tokens_of(alloc: Global, text: &[u8]) -> Result<Vec<Token>, NoMemo
 }
 
 /// The kind of a token, where there is one.
-pub(crate) fn kind_at(tokens: &[Token], at: usize) -> Option<TokenKind> {
+pub(crate) fn kind_at(tokens: &[Token], at: usize) -> Option<TokenKind>
+    ensures { result ≡ option_map (λ token. token.kind) (slice_get tokens.now at) }
+{
     match tokens.get(at) {
         Some(token) => Some(token.kind),
         None => None,
@@ -32,7 +34,9 @@ pub(crate) fn kind_at(tokens: &[Token], at: usize) -> Option<TokenKind> {
 }
 
 /// Where a token begins, or else the end.
-pub(crate) fn start_at(tokens: &[Token], at: usize, end: u32) -> u32 {
+pub(crate) fn start_at(tokens: &[Token], at: usize, end: u32) -> u32
+    ensures { result ≡ unwrap_or (option_map (λ token. token.start) (slice_get tokens.now at)) end }
+{
     match tokens.get(at) {
         Some(token) => token.start,
         None => end,
