@@ -1,3 +1,4 @@
 pub mod Answered
+mod Likened
 mod Placed
 mod Spotted
