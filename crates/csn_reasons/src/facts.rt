@@ -10,9 +10,9 @@ use crate::path::push_path;
 use crate::spot::{Spot, spot_of};
 use csn_bits::NoMemory;
 use csn_desc::Desc;
-use csn_grammar::read_rules;
+use csn_grammar::{GrammarFault, read_rules};
 use csn_places::{Origin, origins};
-use csn_resolve::resolve;
+use csn_resolve::{ResolveFault, resolve};
 use std::alloc::Global;
 
 /// What is told of a node: where the part is that gives it, its kind, and the path of labels
@@ -28,11 +28,15 @@ pub struct NodeFacts {
 pub fn facts_of(alloc: Global, asked: Asked<'_>) -> Result<Vec<NodeFacts>, NoMemory>
     requires fits { length asked.text.now ≤ MOST_DESCRIPTION }
 {
-    let Ok(rules) = read_rules(alloc, asked.text) else {
-        return Ok(Vec::new(alloc));
+    let rules = match read_rules(alloc, asked.text) {
+        Ok(rules) => rules,
+        Err(GrammarFault::Syntax { .. }) => return Ok(Vec::new(alloc)),
+        Err(GrammarFault::NoMemory) => return Err(NoMemory),
     };
-    let Ok(desc) = resolve(alloc, &rules, asked.name, asked.reading) else {
-        return Ok(Vec::new(alloc));
+    let desc = match resolve(alloc, &rules, asked.name, asked.reading) {
+        Ok(desc) => desc,
+        Err(ResolveFault::Refused { .. }) => return Ok(Vec::new(alloc)),
+        Err(ResolveFault::NoMemory) => return Err(NoMemory),
     };
     let places = origins(alloc, &rules, asked.name, &desc)?;
     facts_at(alloc, asked, &desc, &places)
