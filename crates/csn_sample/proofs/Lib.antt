@@ -1,4 +1,5 @@
 pub mod Changes
+pub mod Draws
 pub mod Marked
 pub mod Trees
 pub mod TreesInside

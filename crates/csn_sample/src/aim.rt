@@ -1,3 +1,5 @@
+ghost use Rattle.std.specs.Prelude.{◌≡◌, ◌↔◌, [], true, false, IsTrue, slice_index_or};
+
 /// What a draw goes towards.
 #[derive(Clone, Copy)]
 pub(crate) struct Aim<'a> {
@@ -11,11 +13,23 @@ pub(crate) struct Aim<'a> {
 
 impl<'a> Aim<'a> {
     /// Any block of at most so many bits.
-    pub fn any(most: u32) -> Aim<'a> {
+    pub fn any(most: u32) -> Aim<'a>
+        ensures wanted { result.wanted.now ≡ [] }
+        ensures short { result.short ≡ false }
+        ensures most { result.most ≡ most }
+    {
         Aim {
             wanted: &[],
             short: false,
             most,
         }
     }
+}
+
+/// Whether a block is wanted that goes through a node.
+pub(crate) fn is_wanted(wanted: &[bool], i: u16) -> bool
+    ensures { IsTrue result ↔ (slice_index_or wanted.now i false ≡ true) }
+{
+    let i = usize::from(i);
+    i < wanted.len() && wanted[i]
 }

@@ -1,6 +1,6 @@
 //! The nodes of a description, gone through by chance.
 
-ghost use Rattle.std.specs.Prelude.{◌≡◌, ◌+◌, ◌<◌, ◌≤◌, length, OnOk};
+ghost use Rattle.std.specs.Prelude.{◌≡◌, ◌+◌, ◌<◌, ◌≤◌, [], length, OnOk};
 
 use crate::chart::Chart;
 use crate::drawn::{Drawn, Stop};
@@ -30,7 +30,10 @@ pub(crate) struct Draft {
 
 impl Draft {
     /// Nothing is drawn. It takes no memory.
-    pub fn new(alloc: Global) -> Draft {
+    pub fn new(alloc: Global) -> Draft
+        ensures bits { result.drawn.bits.items ≡ [] }
+        ensures begun { result.begun ≡ 0 }
+    {
         Draft {
             drawn: Drawn::new(alloc),
             numbers: ArrayVec::new(),

@@ -1,4 +1,4 @@
-ghost use Rattle.std.specs.Prelude.{◌≡◌, ◌<◌};
+ghost use Rattle.std.specs.Prelude.{◌≡◌, ◌%◌, ◌<◌, ◌↔◌, IsTrue};
 ghost use Rattle.csn_sample.specs.Generator.{next_state, mixed};
 
 /// What is added to the state each time.
@@ -39,7 +39,9 @@ impl Generator {
     /// A number below another.
     pub(crate) fn below(&mut self, end: u64) -> u64
         requires { 0 < end }
-        ensures { result < end }
+        ensures state { self.new.state ≡ next_state self.old.state }
+        ensures number { result ≡ mixed (next_state self.old.state) % end }
+        ensures below { result < end }
     {
         self.number() % end
     }
@@ -47,6 +49,8 @@ impl Generator {
     /// Whether one chance of so many came true.
     pub(crate) fn one_in(&mut self, many: u64) -> bool
         requires { 0 < many }
+        ensures state { self.new.state ≡ next_state self.old.state }
+        ensures number { IsTrue result ↔ (mixed (next_state self.old.state) % many ≡ 0) }
     {
         self.below(many) == 0
     }

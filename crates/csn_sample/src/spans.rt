@@ -2,7 +2,7 @@
 
 ghost use Rattle.std.specs.Prelude.{◌+◌, ◌≤◌, length};
 
-use crate::span::Span;
+use crate::span::{Span, span_at};
 use csn_bits::{MOST_BITS, NoMemory};
 use csn_certify::{Plan, Steps};
 use csn_desc::{Count, Node, Parts};
@@ -42,7 +42,9 @@ pub fn ample<L: Ledger>(alloc: Global, plan: &Plan, steps: &mut Steps<L>) -> Res
     ensures { steps.new ≤ steps.old + length plan.now.nodes }
 {
     let spans = plan_spans(alloc, plan, steps)?;
-    let least = at(spans.bits.as_slice(), 0).least.min(u64::from(MOST_BITS));
+    let least = span_at(spans.bits.as_slice(), 0)
+        .least
+        .min(u64::from(MOST_BITS));
     Ok((2 * least as u32).clamp(184, MOST_BITS))
 }
 
@@ -56,7 +58,7 @@ fn narrow(node: &Node, bits: &[Span], numbers: &mut [Span]) {
     };
     if let Some(number) = numbers.get_mut(usize::from(*field)) {
         *number = number.counting(
-            at(bits, *part),
+            span_at(bits, *part),
             u64::from(*unit),
             u64::from(*m),
             u64::from(*c),
@@ -78,19 +80,14 @@ fn span_of(node: &Node, spans: &[Span]) -> Span {
         Node::Rest | Node::Many(_) => Span::ANY,
         Node::Seq(parts) => all_of(parts, spans),
         Node::Choice(parts) => one_of(parts, spans),
-        Node::Times { count, part } => times(*count, at(spans, *part)),
+        Node::Times { count, part } => times(*count, span_at(spans, *part)),
         Node::Trunc(parts) => Span {
             least: 0,
             most: all_of(parts, spans).most,
         },
         Node::Window { unit, count, .. } => times(*count, Span::exactly(u64::from(*unit))),
-        Node::Named { part, .. } => at(spans, *part),
+        Node::Named { part, .. } => span_at(spans, *part),
     }
-}
-
-/// The span of a node.
-fn at(spans: &[Span], i: u16) -> Span {
-    spans.get(usize::from(i)).copied().unwrap_or(Span::NONE)
 }
 
 /// A part as many times as counted.
@@ -109,7 +106,7 @@ fn times(count: Count, part: Span) -> Span {
 fn all_of(parts: &Parts, spans: &[Span]) -> Span {
     let mut all = Span::NONE;
     for k in 0..parts.len() {
-        all = all.and(at(spans, parts.get(k)));
+        all = all.and(span_at(spans, parts.get(k)));
     }
     all
 }
@@ -121,7 +118,7 @@ fn one_of(parts: &Parts, spans: &[Span]) -> Span {
         most: 0,
     };
     for k in 0..parts.len() {
-        one = one.or(at(spans, parts.get(k)));
+        one = one.or(span_at(spans, parts.get(k)));
     }
     one
 }

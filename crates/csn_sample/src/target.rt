@@ -1,9 +1,9 @@
 //! Ways that were not met, towards which blocks are drawn one after another.
 
-ghost use Rattle.std.specs.Prelude.{◌+◌, ◌*◌, ◌≤◌, length};
-ghost use Rattle.csn_sample.specs.Covering.{HasMarks};
+ghost use Rattle.std.specs.Prelude.{◌≡◌, ◌+◌, ◌*◌, ◌≤◌, ◌↔◌, ◌==◌, [], IfOk, IsTrue, if◌then◌else◌, length};
+ghost use Rattle.csn_sample.specs.Covering.{AllUnmet, HasMarks};
 
-use crate::aim::Aim;
+use crate::aim::{Aim, is_wanted};
 use crate::covering::{Way, ways_unset};
 use crate::marks::WayMarks;
 use csn_bits::NoMemory;
@@ -37,7 +37,8 @@ impl Target {
         steps: &mut Steps<L>,
     ) -> Result<Target, NoMemory>
         requires { HasMarks plan.now marks.now }
-        ensures { steps.new ≤ steps.old + 2 * length plan.now.nodes }
+        ensures ways { IfOk result (λ target. AllUnmet plan.now (length plan.now.nodes) target.ways.items marks.now) }
+        ensures steps { steps.new ≤ steps.old + 2 * length plan.now.nodes }
     {
         let ways = ways_unset(alloc, plan, marks, steps)?;
         let wanted = leading_to(alloc, plan, ways.first(), steps)?;
@@ -51,12 +52,17 @@ impl Target {
     }
 
     /// Whether no way was left when the round began.
-    pub fn is_none(&self) -> bool {
-        self.ways.is_empty()
+    pub fn is_none(&self) -> bool
+        ensures { IsTrue result ↔ (self.now.ways.items ≡ []) }
+    {
+        self.ways.len() == 0
     }
 
     /// What the next block goes towards. In the first round it has few bits.
-    pub fn aim(&mut self, few: u32, most: u32) -> Aim<'_> {
+    pub fn aim(&mut self, few: u32, most: u32) -> Aim<'_>
+        ensures wanted { result.wanted.now ≡ self.old.wanted.items }
+        ensures most { result.most ≡ (if self.old.round == 0 then few else most) }
+    {
         self.left = self.left.saturating_sub(1);
         Aim {
             wanted: &self.wanted,
@@ -154,20 +160,15 @@ fn has_wanted(node: &Node, wanted: &[bool]) -> bool {
         Node::Times { part, .. }
         | Node::Many(part)
         | Node::Window { part, .. }
-        | Node::Named { part, .. } => is_wanted(*part, wanted),
+        | Node::Named { part, .. } => is_wanted(wanted, *part),
         _ => false,
     }
-}
-
-/// Whether a block is wanted that goes through a node.
-fn is_wanted(i: u16, wanted: &[bool]) -> bool {
-    wanted.get(usize::from(i)).copied().unwrap_or(false)
 }
 
 /// Whether one of some parts is wanted.
 fn one_is_wanted(parts: &Parts, wanted: &[bool]) -> bool {
     for at in 0..parts.len() {
-        if is_wanted(parts.get(at), wanted) {
+        if is_wanted(wanted, parts.get(at)) {
             return true;
         }
     }
