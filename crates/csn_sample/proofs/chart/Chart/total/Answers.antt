@@ -1,4 +1,4 @@
-use Rattle.std.proofs.Common.{◌∙◌, ◌+◌, ◌-◌, ◌^◌, ℕ, ap}
+use Rattle.std.proofs.Common.{◌∙◌, ◌+◌, ◌-◌, ◌^◌, ap}
 use Rattle.std.specs.Prelude.{min}
 use Rattle.csn_sample.specs.declared.span.Span.{Span}
 use Rattle.csn_sample.specs.Spans.{span_at}
