@@ -1,35 +1,57 @@
 -- Bits as digits, and the pieces of a line.
-use Rattle.std.proofs.Common.{◌≡◌, ℕ, ◌+◌, ◌-◌, ◌<◌, ◌≤◌, List, [], ◌∷◌, ◌++◌, length, take, drop, get_or, arith, ap, sym, ◌∙◌, length-drop, append_assoc, inl, inr, take_all}
+use Rattle.std.proofs.Common.{◌≡◌, ℕ, ◌+◌, ◌-◌, ◌*◌, ◌/◌, ◌%◌, ◌<◌, ◌≤◌, List, [], ◌∷◌, ◌++◌, length, take, drop, get_or, refl, arith, ap, sym, ◌∙◌, length-drop, append_assoc, inl, inr, take_all}
 use Rattle.std.proofs.lemmas.Bool.{cases_lt}
-use Rattle.std.proofs.lemmas.List.{get_or-drop, map-append, take_more}
+use Rattle.std.proofs.Math.Seq.{take-add}
+use Rattle.std.proofs.lemmas.List.{drop-drop, drop-take, drop_more, map-append, take-take, take_at}
+use Rattle.csn_bits.specs.Octets.{bits_of_octet, bits_of_octets}
+use Rattle.csn_bits.proofs.Packing.{drop-bits_of_octets}
 use Rattle.csn_explaining.specs.LeafLine.{digits_of}
 
--- one digit more
+-- the digits up to a place, and those of the bits behind it
 pub more_digits :
-    (block : List ℕ) (place at : ℕ) → place ≤ at → at < length block
-    → digits_of (take (at + 1 - place) (drop place block))
-    ≡ digits_of (take (at - place) (drop place block)) ++ (48 + get_or block at 0) ∷ []
-more_digits block place at from within =
-    let inside : at - place < length (drop place block) = omega (arith, length-drop place block) in
-    let here : at + 1 - place ≡ at - place + 1 = omega arith in
+    (old now new block : List ℕ) (place at count : ℕ) → place ≤ at
+    → now ≡ old ++ digits_of (take (at - place) (drop place block)) → new ≡ now ++ digits_of (take count (drop at block))
+    → new ≡ old ++ digits_of (take (at + count - place) (drop place block))
+more_digits old now new block place at count from stood wrote =
+    let here : at + count - place ≡ at - place + count = omega arith in
     let there : place + (at - place) ≡ at = omega arith in
-    ap (λ n. digits_of (take n (drop place block))) here
-    ∙ ap (λ l. digits_of l) (take_more (drop place block) (at - place) 0 inside)
-    ∙ map-append (λ bit. 48 + bit) (take (at - place) (drop place block)) (get_or (drop place block) (at - place) 0 ∷ [])
-    ∙ ap (λ b. digits_of (take (at - place) (drop place block)) ++ (48 + b) ∷ [])
-    (get_or-drop place block (at - place) 0 ∙ ap (λ n. get_or block n 0) there)
-
--- a text with digits behind it that gets one more
-pub push_digit :
-    (old now new block : List ℕ) (place at bit : ℕ) → place ≤ at → at < length block
-    → now ≡ old ++ digits_of (take (at - place) (drop place block)) → bit ≡ get_or block at 0 → new ≡ now ++ (48 + bit) ∷ []
-    → new ≡ old ++ digits_of (take (at + 1 - place) (drop place block))
-push_digit old now new block place at bit from within stood is wrote =
+    let front : List ℕ = take (at - place) (drop place block) in
+    let back : List ℕ = take count (drop at block) in
+    let whole : take (at + count - place) (drop place block) ≡ front ++ back =
+    ap (λ n. take n (drop place block)) here
+    ∙ take-add (at - place) count (drop place block)
+    ∙ ap (λ l. front ++ take count l) (drop-drop (at - place) place block)
+    ∙ ap (λ n. front ++ take count (drop n block)) there in
     wrote
-    ∙ ap (λ l. l ++ (48 + bit) ∷ []) stood
-    ∙ append_assoc old (digits_of (take (at - place) (drop place block))) ((48 + bit) ∷ [])
-    ∙ ap (λ b. old ++ (digits_of (take (at - place) (drop place block)) ++ (48 + b) ∷ [])) is
-    ∙ ap (λ l. old ++ l) (sym (more_digits block place at from within))
+    ∙ ap (λ l. l ++ digits_of back) stood
+    ∙ append_assoc old (digits_of front) (digits_of back)
+    ∙ ap (λ l. old ++ l) (sym (map-append (λ bit. 48 + bit) front back))
+    ∙ ap (λ l. old ++ digits_of l) (sym whole)
+
+-- one bit
+pub one_digit : (block : List ℕ) (at bit : ℕ) → at < length block → bit ≡ get_or block at 0
+    → digits_of (take 1 (drop at block)) ≡ (48 + bit) ∷ []
+one_digit block at bit within is =
+    ap (λ l. digits_of (take 1 l)) (drop_more block at 0 within) ∙ ap (λ b. (48 + b) ∷ []) (sym is)
+
+-- the bits of an octet of a block
+pub octet_bits : (octets block : List ℕ) (at : ℕ) → take (length block) (bits_of_octets octets) ≡ block
+    → at % 8 ≡ 0 → at + 8 ≤ length block → at / 8 < length octets
+    → take 8 (drop at block) ≡ bits_of_octet (get_or octets (at / 8) 0)
+octet_bits octets block at is whole within inside =
+    let k : ℕ = at / 8 in
+    let all : List ℕ = bits_of_octets octets in
+    let here : at ≡ 8 * k = omega arith in
+    let left : length block ≡ at + (length block - at) = omega arith in
+    let eight : 8 ≤ length block - at = omega arith in
+    ap (λ l. take 8 (drop at l)) (sym is)
+    ∙ ap (λ n. take 8 (drop at (take n all))) left
+    ∙ ap (λ l. take 8 l) (drop-take at (length block - at) all)
+    ∙ take-take 8 (length block - at) (drop at all) eight
+    ∙ ap (λ n. take 8 (drop n all)) here
+    ∙ ap (λ l. take 8 l) (drop-bits_of_octets k octets)
+    ∙ ap (λ l. take 8 (bits_of_octets l)) (drop_more octets k 0 inside)
+    ∙ take_at (bits_of_octet (get_or octets k 0)) (bits_of_octets (drop (k + 1) octets)) 8 refl
 
 -- all digits that there are, up to the end of the block
 pub all_digits :

@@ -1,5 +1,5 @@
 -- What `fields` writes of a leaf of a block. (This project's own choice.)
-use Rattle.std.specs.Prelude.{◌≡◌, ℕ, ◌+◌, List, [], ◌∷◌, ◌++◌, map, take, drop, codes, Option, Some, None}
+use Rattle.std.specs.Prelude.{ℕ, ◌+◌, List, [], ◌∷◌, ◌++◌, map, take, drop, codes, Option, Some, None}
 use Rattle.std.specs.Fmt.{decimal}
 use Rattle.csn_fields.specs.declared.leaf.Leaf.{Leaf}
 use Rattle.csn_fields.specs.declared.leaf.LeafKind.{LeafKind}

@@ -1,1 +1,4 @@
 pub mod LeafLine
+pub mod Texts
+pub mod Wanted
+pub mod Ways

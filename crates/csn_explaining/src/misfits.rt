@@ -1,9 +1,13 @@
 //! Where a tree does not fit, in words.
 
+ghost use Rattle.std.specs.Prelude.{◌≡◌, ◌++◌, List, ℕ, codes, OnOk};
+ghost use Rattle.csn_explaining.specs.Texts.{HasGrown, named_way};
+ghost use Rattle.csn_explaining.specs.Wanted.{tree_text};
+
 use crate::nodes::{label_at, node_at};
 use crate::path::PathText;
 use crate::text::push_count;
-use crate::wanted::{push_counted, push_node};
+use crate::wanted::{push_counted, push_node_at, push_sized};
 use csn_bits::MOST_BITS;
 use csn_certify::Plan;
 use csn_desc::{Node, Shape, Tree};
@@ -110,14 +114,14 @@ fn go_to<'a>(
 }
 
 /// Writes what a tree is.
-fn push_tree(out: &mut Vec<u8>, tree: &Tree) -> Result<(), AllocError> {
+#[tactic(auto, using(crate::proofs::Texts::row_count))]
+fn push_tree(out: &mut Vec<u8>, tree: &Tree) -> Result<(), AllocError>
+    ensures { OnOk result (out.new.items ≡ out.old.items ++ tree_text tree.now) }
+{
     match &tree.shape {
         Shape::Empty => out.extend_from_slice(b"nothing"),
         Shape::Bits(bits) => push_counted(out, bits.len(), b"bit"),
-        Shape::Row(rows) => {
-            out.extend_from_slice(b"row of ")?;
-            push_counted(out, rows.len(), b"tree")
-        }
+        Shape::Row(rows) => push_sized(out, b"row of ", rows.len(), b"tree"),
         Shape::Alt(number, _) => {
             out.extend_from_slice(b"alternative ")?;
             push_count(out, u32::from(*number))
@@ -131,43 +135,73 @@ fn push_tree(out: &mut Vec<u8>, tree: &Tree) -> Result<(), AllocError> {
 }
 
 /// Writes how many of something were wanted, and how many were found.
-fn push_counts(out: &mut Vec<u8>, wanted: u32, found: u32, noun: &[u8]) -> Result<(), AllocError> {
+fn push_counts(out: &mut Vec<u8>, wanted: u32, found: u32, noun: &[u8]) -> Result<(), AllocError>
+    ensures { OnOk result (HasGrown out.old.items out.new.items) }
+{
     push_counted(out, wanted, noun)?;
     out.extend_from_slice(b" wanted, ")?;
     push_counted(out, found, noun)?;
-    out.extend_from_slice(b" found")
+    Ok(out.extend_from_slice(b" found")?)
 }
 
 /// Writes which node was wanted, and which tree was found.
-fn push_kinds(out: &mut Vec<u8>, plan: &Plan, at: At<'_>) -> Result<(), AllocError> {
-    if let Some(node) = node_at(plan, behind_windows(plan, at).node) {
-        push_node(out, node)?;
-    }
+fn push_kinds(out: &mut Vec<u8>, plan: &Plan, at: At<'_>) -> Result<(), AllocError>
+    ensures { OnOk result (HasGrown out.old.items out.new.items) }
+{
+    push_node_at(out, plan, behind_windows(plan, at).node)?;
     out.extend_from_slice(b" wanted, ")?;
     push_tree(out, at.tree)?;
-    out.extend_from_slice(b" found")
+    Ok(out.extend_from_slice(b" found")?)
+}
+
+/// Writes how many bits were wanted in a window, and how many were found.
+fn push_window_counts(out: &mut Vec<u8>, wanted: u32, found: u32) -> Result<(), AllocError>
+    ensures { OnOk result (HasGrown out.old.items out.new.items) }
+{
+    push_counts(out, wanted, found, b"bit")?;
+    Ok(out.extend_from_slice(b" in the window")?)
+}
+
+/// Writes that the spare bits are others than a sender writes.
+fn push_spare(out: &mut Vec<u8>) -> Result<(), AllocError>
+    ensures { OnOk result (HasGrown out.old.items out.new.items) }
+{
+    Ok(out.extend_from_slice(b"the spare bits of a sender wanted, others found")?)
+}
+
+/// Writes that there are more bits than a block has.
+fn push_most(out: &mut Vec<u8>) -> Result<(), AllocError>
+    ensures { OnOk result (HasGrown out.old.items out.new.items) }
+{
+    out.extend_from_slice(b"at most ")?;
+    push_counted(out, MOST_BITS, b"bit")?;
+    Ok(out.extend_from_slice(b" wanted, more found")?)
 }
 
 /// Writes what was wanted, and what was found.
-fn push_why(out: &mut Vec<u8>, plan: &Plan, at: At<'_>, why: MisfitWhy) -> Result<(), AllocError> {
+fn push_why(out: &mut Vec<u8>, plan: &Plan, at: At<'_>, why: MisfitWhy) -> Result<(), AllocError>
+    ensures { OnOk result (HasGrown out.old.items out.new.items) }
+{
     match why {
         MisfitWhy::WrongKind => push_kinds(out, plan, at),
         MisfitWhy::WrongLabel => push_kinds(out, plan, at),
         MisfitWhy::NoSuchAlternative => push_kinds(out, plan, at),
         MisfitWhy::WrongCount { wanted, found } => push_counts(out, wanted, found, b"tree"),
         MisfitWhy::WrongWidth { wanted, found } => push_counts(out, wanted, found, b"bit"),
-        MisfitWhy::WindowLength { wanted, found } => {
-            push_counts(out, wanted, found, b"bit")?;
-            out.extend_from_slice(b" in the window")
-        }
-        MisfitWhy::WrongSpare => {
-            out.extend_from_slice(b"the spare bits of a sender wanted, others found")
-        }
-        MisfitWhy::TooManyBits => {
-            out.extend_from_slice(b"at most ")?;
-            push_counted(out, MOST_BITS, b"bit")?;
-            out.extend_from_slice(b" wanted, more found")
-        }
+        MisfitWhy::WindowLength { wanted, found } => push_window_counts(out, wanted, found),
+        MisfitWhy::WrongSpare => push_spare(out),
+        MisfitWhy::TooManyBits => push_most(out),
+    }
+}
+
+/// Writes the way to where a tree does not fit.
+fn push_name(out: &mut Vec<u8>, path: &PathText) -> Result<(), AllocError>
+    ensures { OnOk result (out.new.items ≡ out.old.items ++ named_way path.now.text) }
+{
+    if path.text().len() > 0 {
+        out.extend_from_slice(path.text())
+    } else {
+        Ok(out.push(b'.')?)
     }
 }
 
@@ -179,14 +213,13 @@ pub fn push_misfit(
     plan: &Plan,
     tree: &Tree,
     misfit: &Misfit,
-) -> Result<(), AllocError> {
+) -> Result<(), AllocError>
+    ensures { OnOk result ((why : List ℕ) × (out.new.items ≡ out.old.items
+        ++ (codes "no " ++ (named_way path.new.text ++ (codes ": " ++ why))))) }
+{
     let at = go_to(path, plan, tree, &misfit.path)?;
     out.extend_from_slice(b"no ")?;
-    if path.text().len() > 0 {
-        out.extend_from_slice(path.text())?;
-    } else {
-        out.push(b'.')?;
-    }
+    push_name(out, path)?;
     out.extend_from_slice(b": ")?;
-    push_why(out, plan, at, misfit.why)
+    Ok(push_why(out, plan, at, misfit.why)?)
 }

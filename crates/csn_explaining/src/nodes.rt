@@ -1,6 +1,7 @@
 //! The nodes of a plan, by their numbers.
 
 ghost use Rattle.std.specs.Prelude.{◌≡◌, ◌<◌, slice_get, option_copied};
+ghost use Rattle.csn_explaining.specs.Wanted.{label_of};
 
 use csn_certify::{Plan, Steps};
 use csn_desc::Node;
@@ -29,7 +30,9 @@ pub fn node_at(plan: &Plan, i: u16) -> Option<&Node>
 }
 
 /// The label of the node with this number, where it is a labelled part.
-pub fn label_at(plan: &Plan, i: u16) -> Option<&[u8]> {
+pub fn label_at(plan: &Plan, i: u16) -> Option<&[u8]>
+    ensures { option_copied result ≡ label_of (slice_get plan.now.nodes i) }
+{
     match node_at(plan, i)? {
         Node::Named { label, .. } => Some(label.bytes()),
         _ => None,

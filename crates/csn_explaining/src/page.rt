@@ -1,6 +1,8 @@
 //! Blocks drawn bit by bit, as a page of HTML that needs nothing else.
 
-ghost use Rattle.std.specs.Prelude.{◌≤◌};
+ghost use Rattle.std.specs.Prelude.{◌≡◌, ◌≤◌, ◌++◌, OnOk};
+ghost use Rattle.csn_explaining.specs.declared.page_text.TheConstants.{BEFORE_TITLE, BEHIND_TITLE, FOOT, STYLE};
+ghost use Rattle.csn_explaining.specs.Texts.{html_text};
 
 use crate::page_text::{BEFORE_TITLE, BEHIND_TITLE, FOOT, STYLE};
 use crate::text::{
@@ -44,7 +46,10 @@ enum Look {
 }
 
 /// Writes the beginning of a page about a rule.
-pub fn push_head(out: &mut Vec<u8>, name: &[u8]) -> Result<(), AllocError> {
+pub fn push_head(out: &mut Vec<u8>, name: &[u8]) -> Result<(), AllocError>
+    ensures { OnOk result (out.new.items ≡ out.old.items
+        ++ (BEFORE_TITLE.now ++ (html_text name.now ++ (STYLE.now ++ (html_text name.now ++ BEHIND_TITLE.now))))) }
+{
     out.extend_from_slice(BEFORE_TITLE)?;
     push_html(out, name)?;
     out.extend_from_slice(STYLE)?;
@@ -53,7 +58,9 @@ pub fn push_head(out: &mut Vec<u8>, name: &[u8]) -> Result<(), AllocError> {
 }
 
 /// Writes the end of a page.
-pub fn push_foot(out: &mut Vec<u8>) -> Result<(), AllocError> {
+pub fn push_foot(out: &mut Vec<u8>) -> Result<(), AllocError>
+    ensures { OnOk result (out.new.items ≡ out.old.items ++ FOOT.now) }
+{
     out.extend_from_slice(FOOT)
 }
 

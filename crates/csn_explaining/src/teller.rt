@@ -1,6 +1,7 @@
 //! What answers the lines of an input.
 
-ghost use Rattle.std.specs.Prelude.{◌≡◌, ◌≤◌, ◌++◌, List, ℕ, length};
+ghost use Rattle.std.specs.Prelude.{◌≤◌, length};
+ghost use Rattle.csn_explaining.specs.Texts.{HasGrown};
 ghost use Rattle.csn_bits.specs.declared.feed.TheConstants.{MOST_LINE};
 
 use std::alloc::{AllocError, Global};
@@ -25,5 +26,5 @@ pub trait LineTeller {
         out: &mut Vec<u8>,
     ) -> Result<Answered, AllocError>
         requires { length line.now ≤ MOST_LINE }
-        ensures { (text : List ℕ) × (out.new.items ≡ out.old.items ++ text) };
+        ensures { HasGrown out.old.items out.new.items };
 }

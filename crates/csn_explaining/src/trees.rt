@@ -2,6 +2,7 @@
 
 ghost use Rattle.std.specs.Prelude.{◌≡◌, ◌<◌, ◌≤◌, length};
 ghost use Rattle.csn_bits.specs.declared.feed.TheConstants.{MOST_LINE};
+ghost use Rattle.csn_explaining.specs.Ways.{root_way};
 
 use crate::misfits::push_misfit;
 use crate::path::PathText;
@@ -60,7 +61,10 @@ fn push_text_fault(fault: TextFault, out: &mut Vec<u8>) -> Result<(), AllocError
 
 impl<'a> TreeTeller<'a> {
     /// Answers by this plan. It takes no memory.
-    pub fn new(alloc: Global, plan: &'a Plan) -> TreeTeller<'a> {
+    pub fn new(alloc: Global, plan: &'a Plan) -> TreeTeller<'a>
+        ensures plan { result.plan ≡ plan.entry }
+        ensures path { result.path ≡ root_way }
+    {
         TreeTeller {
             plan,
             path: PathText::new(alloc),

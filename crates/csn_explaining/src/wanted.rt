@@ -1,5 +1,9 @@
 //! What a node wants, in words.
 
+ghost use Rattle.std.specs.Prelude.{◌≡◌, ◌++◌, codes, map, slice_get, OnOk};
+ghost use Rattle.csn_explaining.specs.Texts.{counted_text};
+ghost use Rattle.csn_explaining.specs.Wanted.{field_text, left_text, node_text, some_node_text, symbol_letter, wanted_text};
+
 use crate::nodes::node_at;
 use crate::text::push_count;
 use csn_certify::Plan;
@@ -8,7 +12,9 @@ use csn_fields::Refusal;
 use std::alloc::AllocError;
 
 /// The letter for a symbol of a literal.
-fn symbol_letter(symbol: Symbol) -> u8 {
+fn symbol_letter(symbol: Symbol) -> u8
+    ensures { result ≡ symbol_letter symbol }
+{
     match symbol {
         Symbol::Zero => b'0',
         Symbol::One => b'1',
@@ -18,7 +24,9 @@ fn symbol_letter(symbol: Symbol) -> u8 {
 }
 
 /// Writes a literal word.
-fn push_literal(out: &mut Vec<u8>, run: &Run) -> Result<(), AllocError> {
+fn push_literal(out: &mut Vec<u8>, run: &Run) -> Result<(), AllocError>
+    ensures { OnOk result (out.new.items ≡ out.old.items ++ (codes "literal " ++ map symbol_letter run.now)) }
+{
     out.extend_from_slice(b"literal ")?;
     for at in 0..run.len() {
         out.push(symbol_letter(*run.get(at)))?;
@@ -27,7 +35,9 @@ fn push_literal(out: &mut Vec<u8>, run: &Run) -> Result<(), AllocError> {
 }
 
 /// Writes a number and a noun, which has an `s` behind it unless the number is 1.
-pub fn push_counted(out: &mut Vec<u8>, count: u32, noun: &[u8]) -> Result<(), AllocError> {
+pub fn push_counted(out: &mut Vec<u8>, count: u32, noun: &[u8]) -> Result<(), AllocError>
+    ensures { OnOk result (out.new.items ≡ out.old.items ++ counted_text count noun.now) }
+{
     push_count(out, count)?;
     out.push(b' ')?;
     out.extend_from_slice(noun)?;
@@ -38,7 +48,9 @@ pub fn push_counted(out: &mut Vec<u8>, count: u32, noun: &[u8]) -> Result<(), Al
 }
 
 /// Writes a field of so many units.
-fn push_field(out: &mut Vec<u8>, unit: u8, count: Count) -> Result<(), AllocError> {
+fn push_field(out: &mut Vec<u8>, unit: u8, count: Count) -> Result<(), AllocError>
+    ensures { OnOk result (out.new.items ≡ out.old.items ++ field_text unit count) }
+{
     match count {
         Count::Fixed(n) => {
             out.extend_from_slice(b"field of ")?;
@@ -48,30 +60,43 @@ fn push_field(out: &mut Vec<u8>, unit: u8, count: Count) -> Result<(), AllocErro
     }
 }
 
+/// Writes words.
+fn push_words(out: &mut Vec<u8>, words: &[u8]) -> Result<(), AllocError>
+    ensures { OnOk result (out.new.items ≡ out.old.items ++ words.now) }
+{
+    out.extend_from_slice(words)
+}
+
+/// Writes words, and behind them how many of something there are.
+pub fn push_sized(
+    out: &mut Vec<u8>,
+    words: &[u8],
+    count: u32,
+    noun: &[u8],
+) -> Result<(), AllocError>
+    ensures { OnOk result (out.new.items ≡ out.old.items ++ (words.now ++ counted_text count noun.now)) }
+{
+    out.extend_from_slice(words)?;
+    push_counted(out, count, noun)
+}
+
 /// Writes what a node is.
-pub fn push_node(out: &mut Vec<u8>, node: &Node) -> Result<(), AllocError> {
+pub fn push_node(out: &mut Vec<u8>, node: &Node) -> Result<(), AllocError>
+    ensures { OnOk result (out.new.items ≡ out.old.items ++ node_text node.now) }
+{
     match node {
         Node::Lits(run) => push_literal(out, run),
-        Node::Spare(_) => out.extend_from_slice(b"spare bit"),
-        Node::Pad => out.extend_from_slice(b"spare padding"),
-        Node::Null => out.extend_from_slice(b"no bits"),
+        Node::Spare(_) => push_words(out, b"spare bit"),
+        Node::Pad => push_words(out, b"spare padding"),
+        Node::Null => push_words(out, b"no bits"),
         Node::Field { unit, count } => push_field(out, *unit, *count),
-        Node::Rest => out.extend_from_slice(b"any bits"),
-        Node::Seq(parts) => {
-            out.extend_from_slice(b"sequence of ")?;
-            push_counted(out, u32::from(parts.len()), b"part")
-        }
-        Node::Choice(parts) => {
-            out.extend_from_slice(b"one of ")?;
-            push_counted(out, u32::from(parts.len()), b"alternative")
-        }
-        Node::Times { .. } => out.extend_from_slice(b"counted repetition"),
-        Node::Many(_) => out.extend_from_slice(b"repetition"),
-        Node::Trunc(parts) => {
-            out.extend_from_slice(b"truncation of ")?;
-            push_counted(out, u32::from(parts.len()), b"part")
-        }
-        Node::Window { .. } => out.extend_from_slice(b"window"),
+        Node::Rest => push_words(out, b"any bits"),
+        Node::Seq(parts) => push_sized(out, b"sequence of ", u32::from(parts.len()), b"part"),
+        Node::Choice(parts) => push_sized(out, b"one of ", u32::from(parts.len()), b"alternative"),
+        Node::Times { .. } => push_words(out, b"counted repetition"),
+        Node::Many(_) => push_words(out, b"repetition"),
+        Node::Trunc(parts) => push_sized(out, b"truncation of ", u32::from(parts.len()), b"part"),
+        Node::Window { .. } => push_words(out, b"window"),
         Node::Named { label, .. } => {
             out.push(b'<')?;
             out.extend_from_slice(label.bytes())?;
@@ -80,23 +105,39 @@ pub fn push_node(out: &mut Vec<u8>, node: &Node) -> Result<(), AllocError> {
     }
 }
 
+/// Writes what the node with this number is, where there is one.
+pub fn push_node_at(out: &mut Vec<u8>, plan: &Plan, number: u16) -> Result<(), AllocError>
+    ensures { OnOk result (out.new.items ≡ out.old.items ++ some_node_text (slice_get plan.now.nodes number)) }
+{
+    match node_at(plan, number) {
+        Some(node) => push_node(out, node),
+        None => Ok(()),
+    }
+}
+
+/// Writes how many bits are left, where that is known.
+fn push_left(out: &mut Vec<u8>, left: Option<u32>) -> Result<(), AllocError>
+    ensures { OnOk result (out.new.items ≡ out.old.items ++ left_text left) }
+{
+    let Some(left) = left else {
+        return Ok(());
+    };
+    out.extend_from_slice(b", ")?;
+    push_counted(out, left, b"bit")?;
+    out.extend_from_slice(b" left")
+}
+
 /// Writes what was wanted where a block was refused: the innermost node that had begun, and how many of its bits had come,
 /// where that is known; or that nothing was, where the root had ended.
-pub fn push_wanted(out: &mut Vec<u8>, plan: &Plan, refusal: Refusal) -> Result<(), AllocError> {
-    let number = match refusal.within {
-        Some(open) => open.node,
-        None if refusal.place == 0 => 0,
-        None => return out.extend_from_slice(b"end of the block"),
-    };
-    if let Some(node) = node_at(plan, number) {
-        push_node(out, node)?;
-    }
-    match refusal.left() {
-        Some(left) => {
-            out.extend_from_slice(b", ")?;
-            push_counted(out, left, b"bit")?;
-            out.extend_from_slice(b" left")
+pub fn push_wanted(out: &mut Vec<u8>, plan: &Plan, refusal: Refusal) -> Result<(), AllocError>
+    ensures { OnOk result (out.new.items ≡ out.old.items ++ wanted_text plan.now.nodes refusal) }
+{
+    match refusal.within {
+        Some(open) => {
+            push_node_at(out, plan, open.node)?;
+            push_left(out, refusal.left())
         }
-        None => Ok(()),
+        None if refusal.place == 0 => push_node_at(out, plan, 0),
+        None => out.extend_from_slice(b"end of the block"),
     }
 }

@@ -1,7 +1,8 @@
 //! What the leaves of a block are written by.
 
-ghost use Rattle.std.specs.Prelude.{◌≡◌};
+ghost use Rattle.std.specs.Prelude.{◌≡◌, ◌++◌, OnOk};
 ghost use Rattle.csn_explaining.specs.LeafLine.{kind_text};
+ghost use Rattle.csn_explaining.specs.Ways.{leaf_way};
 
 use csn_bits::Bits;
 use csn_fields::{Leaf, LeafKind};
@@ -69,7 +70,9 @@ pub fn kind_word(kind: LeafKind) -> &'static [u8]
 }
 
 /// Writes the way to a leaf, and behind it its kind, where it is no field.
-pub fn push_way(out: &mut Vec<u8>, standing: Standing<'_>) -> Result<(), AllocError> {
+pub fn push_way(out: &mut Vec<u8>, standing: Standing<'_>) -> Result<(), AllocError>
+    ensures { OnOk result (out.new.items ≡ out.old.items ++ leaf_way standing.entry.leaf.kind standing.entry.path.now) }
+{
     out.extend_from_slice(standing.path)?;
     if standing.leaf.kind == LeafKind::Field {
         return Ok(());

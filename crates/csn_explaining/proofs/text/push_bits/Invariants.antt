@@ -1,10 +1,12 @@
-use Rattle.std.proofs.Common.{◌≡◌, ◌+◌, ◌-◌, ◌≤◌, ◌++◌, take, drop}
-use Rattle.std.specs.Prelude.{vec_len, vec_capacity}
+use Rattle.std.proofs.Common.{◌≡◌, ◌-◌, ◌≤◌, ◌++◌, take, drop}
 use Rattle.csn_explaining.specs.LeafLine.{digits_of}
 use Rattle.csn_explaining.proofs.text.push_bits.Given as goal
 
--- the first digits are written, and there is room for the others
+-- the first digits are written
 abbrev pub invariant-loop-at : goal.invariant-loop-at
 invariant-loop-at l =
     (l.out.items ≡ l.fn.out.items ++ digits_of (take (l.at - l.place) (drop l.place l.block)))
-    × (vec_len l.out + (l.end - l.at) ≤ vec_capacity l.out)
+    × (l.place ≤ l.at) × (l.place ≤ l.end → l.at ≤ l.end)
+
+abbrev pub decreases-loop-at : goal.decreases-loop-at
+decreases-loop-at l = l.end - l.at
