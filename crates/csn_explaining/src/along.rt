@@ -1,5 +1,8 @@
 //! The events of a block, told to a writer of its leaves.
 
+ghost use Rattle.std.specs.Prelude.{◌≡◌, true, false};
+ghost use Rattle.csn_explaining.specs.Ways.{root_way};
+
 use crate::nodes::label_at;
 use crate::path::PathText;
 use crate::writer::{LeafWriter, Standing};
@@ -30,7 +33,13 @@ pub(crate) struct Along<'a, W> {
 
 impl<'a, W: LeafWriter> Along<'a, W> {
     /// The beginning of a block.
-    pub fn new(plan: &'a Plan, block: &'a Bits, mut path: PathText, writer: W) -> Along<'a, W> {
+    pub fn new(plan: &'a Plan, block: &'a Bits, mut path: PathText, writer: W) -> Along<'a, W>
+        ensures plan { result.plan ≡ plan.entry }
+        ensures block { result.block ≡ block.entry }
+        ensures path { result.path ≡ root_way }
+        ensures writer { result.writer ≡ writer }
+        ensures memory { result.is_short ≡ false }
+    {
         path.restart();
         Along {
             plan,
@@ -41,8 +50,23 @@ impl<'a, W: LeafWriter> Along<'a, W> {
         }
     }
 
+    /// The beginning of the block of a line again.
+    pub fn restart(&mut self, line: &[u8])
+        ensures path { self.new.path ≡ root_way }
+        ensures memory { self.old.is_short ≡ true → self.new.is_short ≡ true }
+    {
+        self.path.restart();
+        if !self.is_short {
+            self.is_short = self.writer.begin(line).is_err();
+        }
+    }
+
     /// The block has ended.
-    pub fn finish(self) -> Told<W> {
+    pub fn finish(self) -> Told<W>
+        ensures path { result.path ≡ self.entry.path }
+        ensures writer { result.writer ≡ self.entry.writer }
+        ensures memory { result.is_short ≡ self.entry.is_short }
+    {
         let Along {
             path,
             writer,

@@ -1,5 +1,8 @@
 //! Block lines, each answered by its leaves.
 
+ghost use Rattle.std.specs.Prelude.{◌≡◌, [], IfOk};
+ghost use Rattle.csn_explaining.specs.Ways.{root_way};
+
 use crate::along::{Along, Told};
 use crate::field_plan::FieldPlan;
 use crate::nodes::node_at;
@@ -25,26 +28,21 @@ pub struct BlockTeller<'a, W> {
     wanted: Vec<u8>,
 }
 
-/// Tells a writer the leaves of a block that is a string.
-fn read_string<W: LeafWriter>(
-    plan: &FieldPlan<'_>,
-    block: &Bits,
-    path: PathText,
-    writer: W,
-) -> (Told<W>, Judged) {
-    let along = Along::new(plan.plan(), block, path, writer);
-    let (along, judged) = plan.tell_string(block, along);
-    (along.finish(), judged)
-}
-
-/// Tells a writer the leaves of a block, as far as it can be followed.
+/// Tells a writer the leaves of the block of a line, and gives how it ends. One that is no string is told again from its
+/// beginning on, as far as it can be followed.
 fn read_leaves<W: LeafWriter>(
     plan: &FieldPlan<'_>,
+    line: &[u8],
     block: &Bits,
     path: PathText,
     writer: W,
 ) -> (Told<W>, Ended) {
     let along = Along::new(plan.plan(), block, path, writer);
+    let (mut along, judged) = plan.tell_string(block, along);
+    if let Judged::Ok = judged {
+        return (along.finish(), Ended::Whole);
+    }
+    along.restart(line);
     let (along, ended) = plan.tell(block, along);
     (along.finish(), ended)
 }
@@ -87,7 +85,11 @@ fn last_role(plan: &Plan, refusal: Refusal) -> Role {
 
 impl<'a, W: LeafWriter + Drop> BlockTeller<'a, W> {
     /// Answers by this plan.
-    pub fn new(alloc: Global, plan: &'a Plan) -> Result<BlockTeller<'a, W>, AllocError> {
+    pub fn new(alloc: Global, plan: &'a Plan) -> Result<BlockTeller<'a, W>, AllocError>
+        ensures plan { IfOk result (λ teller. teller.plan ≡ plan.now) }
+        ensures path { IfOk result (λ teller. teller.path ≡ root_way) }
+        ensures wanted { IfOk result (λ teller. teller.wanted.items ≡ []) }
+    {
         let Ok(plan) = FieldPlan::new(alloc, plan) else {
             return Err(AllocError);
         };
@@ -124,8 +126,7 @@ impl<'a, W: LeafWriter + Drop> BlockTeller<'a, W> {
         if is_short { Err(AllocError) } else { Ok(()) }
     }
 
-    /// Tells the writer the leaves of a block, and gives how it ends. One that is no string is told again from its
-    /// beginning on, as far as it can be followed.
+    /// Tells the writer the leaves of a block, as far as it can be followed, and gives how it ends.
     fn tell_leaves(
         &mut self,
         alloc: Global,
@@ -134,25 +135,7 @@ impl<'a, W: LeafWriter + Drop> BlockTeller<'a, W> {
     ) -> Result<Ended, AllocError> {
         let path = mem::replace(&mut self.path, PathText::new(alloc));
         let writer = mem::replace(&mut self.writer, W::new(alloc));
-        let (told, judged) = read_string(&self.plan, block, path, writer);
-        self.put_back(told)?;
-        match judged {
-            Judged::Ok => Ok(Ended::Whole),
-            Judged::Refused { .. } => self.tell_front(alloc, line, block),
-        }
-    }
-
-    /// Tells the writer the leaves of a block from its beginning on, as far as it can be followed.
-    fn tell_front(
-        &mut self,
-        alloc: Global,
-        line: &[u8],
-        block: &Bits,
-    ) -> Result<Ended, AllocError> {
-        let path = mem::replace(&mut self.path, PathText::new(alloc));
-        let mut writer = mem::replace(&mut self.writer, W::new(alloc));
-        writer.begin(line)?;
-        let (told, ended) = read_leaves(&self.plan, block, path, writer);
+        let (told, ended) = read_leaves(&self.plan, line, block, path, writer);
         self.put_back(told)?;
         Ok(ended)
     }
