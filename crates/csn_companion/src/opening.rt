@@ -67,7 +67,7 @@ pub fn plan_of<B: Shelf>(alloc: Global, shelf: &mut B, asked: Asked<'_>) -> Resu
 }
 
 /// Writes the line that tells a reason, and tells the end of the run.
-fn push_line(reason: &NoPlan, pending: &mut Vec<u8>) -> Result<Ended, AllocError>
+pub fn push_line(reason: &NoPlan, pending: &mut Vec<u8>) -> Result<Ended, AllocError>
     ensures { IfOk result IsFinished }
 {
     let ended = push_reason(reason, pending)?;

@@ -8,11 +8,12 @@ ghost use Rattle.csn_companion.specs.Outside.{IsFinished};
 
 use crate::asked::{Job, Order};
 use crate::lines::Lines;
+use crate::opening::push_line;
 use csn_bits::NoMemory;
 use csn_certify::Plan;
 use csn_io::Sink;
-use csn_lines::{Fault, LINE_FEED, pass_on};
-use csn_plan::{Ended, plan_text, push_reason};
+use csn_lines::{Fault, pass_on};
+use csn_plan::{Ended, plan_text};
 use csn_reasons::{Asked, facts_of};
 use csn_vectors::{BlockMaker, push_cover, push_nearly};
 use std::alloc::Global;
@@ -72,14 +73,11 @@ pub fn push_vectors(
     out: &mut Vec<u8>,
 ) -> Result<Ended, NoMemory>
     requires { length about.text.now ≤ MOST_DESCRIPTION }
+    ensures { IfOk result IsFinished }
 {
     let plan = match plan_text(alloc, about.text, about.name, about.reading) {
         Ok(plan) => plan,
-        Err(reason) => {
-            let ended = push_reason(&reason, out)?;
-            out.push(LINE_FEED)?;
-            return Ok(ended);
-        }
+        Err(reason) => return Ok(push_line(&reason, out)?),
     };
     let facts = facts_of(alloc, about)?;
     match job {
