@@ -1,17 +1,19 @@
 -- What is told of a reason is what `csn_cli check` answers.
-use Rattle.std.proofs.Common.{◌≡◌, ℕ, List, Result, Ok, Err, sym, ap, subst}
+use Rattle.std.proofs.Common.{◌≡◌, ℕ, List, Result, Ok, Err, inr, sym, ap, subst}
 use Rattle.std.specs.Prelude.{IfOk}
 use Rattle.csn_desc.specs.declared.reading.Reading.{Reading}
 use Rattle.csn_desc.specs.Nodes.{DescV}
 use Rattle.csn_grammar.specs.RulesV.{RulesV}
 use Rattle.csn_grammar.specs.declared.fault.GrammarFault.TheVariants.{Syntax, NoMemory as no_memory_for_rules}
 use Rattle.csn_resolve.specs.declared.fault.ResolveFault.TheVariants.{Refused, NoMemory as no_memory_for_nodes}
+use Rattle.csn_resolve.specs.declared.why.Why.{Why}
 use Rattle.csn_resolve.specs.Resolved.{IsResolved}
 use Rattle.csn_certify.specs.declared.certifying.CertifyFault.TheVariants.{Conflict as has_conflict, NoMemory as no_memory_for_plan}
 use Rattle.csn_plan.specs.declared.compiling.NoPlan.{NoPlan}
 use Rattle.csn_plan.specs.declared.compiling.NoPlan.TheVariants.{Rules, Description, Plan}
 use Rattle.csn_plan.specs.declared.ended.Ended.{Ended}
 use Rattle.csn_plan.specs.Compiled.{IsReason, Tells, HasNoPlan, no_rules, rules_refused, not_certified}
+use Rattle.csn_reasons.specs.Facts.{HasNoNodes}
 
 pub told :
     (text name : List ℕ) (reading : Reading) (reason : NoPlan) (line : List ℕ) (ended : Ended)
@@ -24,6 +26,12 @@ told text name reading (Description no_memory_for_nodes) line ended is tells = a
 told text name reading (Plan (has_conflict conflict)) line ended is tells =
     not_certified is.0 is.1 conflict is.2 is.3 is.4 tells.0 tells.1
 told text name reading (Plan no_memory_for_plan) line ended is tells = absurd tells
+
+-- a rule that is refused has no nodes
+pub none_refused :
+    (text name : List ℕ) (reading : Reading) (why : Why) (place : ℕ)
+    → IsReason text name reading (Description (Refused why place)) → HasNoNodes text name reading
+none_refused text name reading why place is = inr (is.0, why, place, is.1, is.2)
 
 pub if_ok_more : {A E : Type 0} (answer : Result A E) (P Q : A → Type 0) → ((a : A) → P a → Q a) → IfOk answer P → IfOk answer Q
 if_ok_more (Ok a) P Q more h = more a h

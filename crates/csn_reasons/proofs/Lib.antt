@@ -2,3 +2,5 @@ pub mod Answered
 mod Likened
 mod Placed
 mod Spotted
+mod Told
+mod Ways

@@ -1,8 +1,7 @@
 -- What two names have alike.
-use Rattle.std.specs.Prelude.{ℕ, ◌+◌, ◌==◌, if◌then◌else◌, List, [], ◌∷◌}
+use Rattle.std.specs.Prelude.{ℕ, ◌==◌, List}
+use Rattle.std.specs.List.{common_prefix_len}
 
 -- how many bytes two names have alike at their beginning
 abbrev pub common : List ℕ → List ℕ → ℕ
-common [] ys = 0
-common (x ∷ xs) [] = 0
-common (x ∷ xs) (y ∷ ys) = if x == y then 1 + common xs ys else 0
+common = common_prefix_len (λ x y. x == y)

@@ -1,5 +1,6 @@
 pub mod Alike
 pub mod Answers
+pub mod Facts
 pub mod Kinds
 pub mod Paths
 pub mod Spots

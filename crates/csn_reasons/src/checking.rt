@@ -7,15 +7,15 @@ ghost use Rattle.csn_reasons.specs.Answers.{IsAnswer};
 
 use crate::asked::Asked;
 use crate::conflicts::tell_conflict;
+use crate::described::describe;
 use crate::refusals::tell_refusal;
 use crate::syntax::tell_syntax;
 use crate::telling::Told;
 use csn_bits::NoMemory;
 use csn_certify::{CertifyFault, Conflict, Plan};
-use csn_grammar::{GrammarFault, read_rules};
-use csn_places::origins;
+use csn_grammar::GrammarFault;
 use csn_plan::{Ended, NoPlan, plan_text, push_certified, push_reason};
-use csn_resolve::{ResolveFault, resolve};
+use csn_resolve::ResolveFault;
 use std::alloc::Global;
 
 /// Writes what `csn_cli check` answers of the rule, and then, where it has no plan, the reason in words. Lines
@@ -45,7 +45,11 @@ fn tell_certified(plan: &Plan, out: &mut Vec<u8>) -> Result<Ended, NoMemory>
 }
 
 /// Writes the line of a reason, and words behind it.
-fn tell_reason(reason: &NoPlan, words: &[u8], out: &mut Vec<u8>) -> Result<Ended, NoMemory>
+pub(crate) fn tell_reason(
+    reason: &NoPlan,
+    words: &[u8],
+    out: &mut Vec<u8>,
+) -> Result<Ended, NoMemory>
     ensures { IfOk result (λ ended. (line : List ℕ) × (out.new.items ≡ out.old.items ++ line ++ 10 ∷ words.now)
         × Tells reason.now line ended) }
 {
@@ -86,12 +90,8 @@ fn push_words(alloc: Global, asked: Asked<'_>, reason: &NoPlan, words: &mut Vec<
 fn push_conflict(alloc: Global, asked: Asked<'_>, conflict: &Conflict, words: &mut Vec<u8>) -> Told
     requires fits { length asked.text.now ≤ MOST_DESCRIPTION }
 {
-    let Ok(rules) = read_rules(alloc, asked.text) else {
+    let Ok(found) = describe(alloc, asked) else {
         return Err(NoMemory);
     };
-    let Ok(desc) = resolve(alloc, &rules, asked.name, asked.reading) else {
-        return Err(NoMemory);
-    };
-    let places = origins(alloc, &rules, asked.name, &desc)?;
-    tell_conflict(alloc, words, asked, &desc, &places, conflict)
+    tell_conflict(alloc, words, asked, &found.desc, &found.origins, conflict)
 }

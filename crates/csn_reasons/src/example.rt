@@ -157,8 +157,8 @@ impl<'a> Example<'a> {
     /// Adds what stands in a node before a part of it.
     fn push_before(&self, node: &Node, part: u16, bits: &mut Vec<u8>) -> Found {
         match node {
-            Node::Seq(_) => self.push_parts(MOST_DEEP, node, place_in(node, part), bits),
-            Node::Trunc(_) => self.push_parts(MOST_DEEP, node, place_in(node, part), bits),
+            Node::Seq(parts) => { self.push_parts(MOST_DEEP, node, place_in(parts, part), bits) },
+            Node::Trunc(parts) => { self.push_parts(MOST_DEEP, node, place_in(parts, part), bits) },
             Node::Times { count, .. } => Ok(least_times(*count) > 0),
             Node::Window { count, .. } => Ok(least_times(*count) > 0),
             _ => Ok(true),
@@ -235,8 +235,8 @@ impl<'a> Example<'a> {
     /// What may follow a part in its node: a part that may begin with the bit, or nothing past one that has bits.
     fn behind(&self, node: &Node, part: u16, octet: u8, bit: u8) -> Option<Option<u16>> {
         match node {
-            Node::Seq(_) => self.later(node, place_in(node, part), octet, bit),
-            Node::Trunc(_) => self.later(node, place_in(node, part), octet, bit),
+            Node::Seq(parts) => self.later(node, place_in(parts, part), octet, bit),
+            Node::Trunc(parts) => self.later(node, place_in(parts, part), octet, bit),
             Node::Many(turn) => self.begun_by(*turn, octet, bit),
             Node::Times { part, .. } => self.begun_by(*part, octet, bit),
             _ => None,

@@ -6,6 +6,7 @@ mod around;
 mod asked;
 mod checking;
 mod conflicts;
+mod described;
 mod example;
 mod facts;
 mod kind;

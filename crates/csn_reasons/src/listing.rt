@@ -1,21 +1,19 @@
-//! What is told of the nodes of a rule.
+//! What is told of the nodes of a rule, as lines.
 
-ghost use Rattle.std.specs.Prelude.{◌≤◌, length};
+ghost use Rattle.std.specs.Prelude.{◌≡◌, ◌≤◌, ◌++◌, ℕ, List, Option, IfOk, OnOk, length};
 ghost use Rattle.csn_plan.specs.declared.compiling.TheConstants.{MOST_DESCRIPTION};
+ghost use Rattle.csn_reasons.specs.Facts.{AreFacts, IsListing, bits_text, node_line, node_lines};
+ghost use Rattle.csn_reasons.specs.declared.facts.NodeFacts.{NodeFacts};
 
 use crate::asked::Asked;
-use crate::kind::NodeKind;
-use crate::nodes::{parents_of, way_up};
-use crate::path::push_path;
-use crate::sizes::{Size, size_at, sizes_of};
-use crate::spot::{Spot, spot_of};
+use crate::checking::tell_reason;
+use crate::described::{Described, describe};
+use crate::facts::{NodeFacts, fact_of};
+use crate::nodes::parents_of;
+use crate::sizes::constants_of;
 use crate::telling::{Told, words};
 use csn_bits::NoMemory;
-use csn_desc::{Desc, Node};
-use csn_grammar::read_rules;
-use csn_places::{Origin, origins};
-use csn_plan::{Ended, NoPlan, push_number, push_reason};
-use csn_resolve::resolve;
+use csn_plan::{Ended, push_number};
 use itoa::Buffer;
 use std::alloc::Global;
 
@@ -24,71 +22,66 @@ use std::alloc::Global;
 /// labels to it, with tabs between. Where the rule has no nodes, it writes what `csn_cli check` answers.
 pub fn list_nodes(alloc: Global, asked: Asked<'_>, out: &mut Vec<u8>) -> Result<Ended, NoMemory>
     requires fits { length asked.text.now ≤ MOST_DESCRIPTION }
+    ensures lines { IfOk result (λ ended. (lines : List ℕ) × (out.new.items ≡ out.old.items ++ lines)
+        × IsListing asked.entry.text.now asked.entry.name.now asked.entry.reading lines ended) }
 {
-    let rules = match read_rules(alloc, asked.text) {
-        Ok(rules) => rules,
-        Err(fault) => return answer(NoPlan::Rules(fault), out),
-    };
-    let desc = match resolve(alloc, &rules, asked.name, asked.reading) {
-        Ok(desc) => desc,
-        Err(fault) => return answer(NoPlan::Description(fault), out),
-    };
-    let places = origins(alloc, &rules, asked.name, &desc)?;
-    list(alloc, asked, &desc, &places, out)?;
-    Ok(Ended::Done)
-}
-
-/// Writes the line of a reason.
-fn answer(reason: NoPlan, out: &mut Vec<u8>) -> Result<Ended, NoMemory> {
-    let ended = push_reason(&reason, out)?;
-    out.push(b'\n')?;
-    Ok(ended)
+    match describe(alloc, asked) {
+        Ok(found) => list(alloc, asked, &found, out),
+        Err(reason) => tell_reason(&reason, b"", out),
+    }
 }
 
 /// Writes the lines of the nodes.
-fn list(alloc: Global, asked: Asked<'_>, desc: &Desc, places: &[Origin], out: &mut Vec<u8>) -> Told
+fn list(
+    alloc: Global,
+    asked: Asked<'_>,
+    found: &Described,
+    out: &mut Vec<u8>,
+) -> Result<Ended, NoMemory>
     requires fits { length asked.text.now ≤ MOST_DESCRIPTION }
+    requires all { length found.now.origins.items ≡ length found.now.desc.nodes }
+    ensures { IfOk result (λ ended. (ended ≡ Ended.Done) × (bits : ℕ → Option ℕ) × (facts : List NodeFacts)
+        × (length facts ≡ length found.now.desc.nodes) × AreFacts asked.entry.text.now found.now.desc.nodes found.now.origins.items facts
+        × (out.new.items ≡ out.old.items ++ node_lines bits 0 facts)) }
 {
-    let parents = parents_of(alloc, desc)?;
-    let sizes = sizes_of(alloc, desc)?;
-    for number in 0..desc.len() {
-        let Some(origin) = places.get(number as usize) else {
-            return Ok(());
-        };
-        push_number(out, number as u32)?;
-        push_facts(
-            desc.node(number),
-            spot_of(asked.text, origin.place),
-            size_at(&sizes, number),
-            out,
-        )?;
-        let up = way_up(alloc, &parents, number)?;
-        push_path(desc, &up, out)?;
-        out.push(b'\n')?;
+    let parents = parents_of(alloc, &found.desc)?;
+    let bits = constants_of(alloc, &found.desc)?;
+    for number in 0..found.desc.len() {
+        let told = fact_of(alloc, asked, found, &parents, number)?;
+        push_line(number, bits[number as usize], &told, out)?;
     }
-    Ok(())
+    Ok(Ended::Done)
 }
 
-/// Writes where a node stands, its kind and its bits, with a tab before each and one behind.
-fn push_facts(node: &Node, spot: Spot, size: Size, out: &mut Vec<u8>) -> Told {
+/// Writes the line of a node.
+fn push_line(number: u16, bits: Option<u64>, told: &NodeFacts, out: &mut Vec<u8>) -> Told
+    ensures { OnOk result (out.new.items ≡ out.old.items ++ node_line number bits told.now) }
+{
+    push_number(out, number as u32)?;
     out.push(b'\t')?;
-    push_number(out, spot.line)?;
+    push_number(out, told.spot.line)?;
     out.push(b':')?;
-    push_number(out, spot.column)?;
+    push_number(out, told.spot.column)?;
     out.push(b'\t')?;
-    words(out, NodeKind::of(node).name())?;
+    words(out, told.kind.name())?;
     out.push(b'\t')?;
-    match size.most {
-        Some(most) if most == size.least => push_long(out, most)?,
-        _ => out.push(b'-')?,
-    }
+    push_bits(bits, out)?;
     out.push(b'\t')?;
+    out.extend_from_slice(told.path.as_slice())?;
+    out.push(b'\n')?;
     Ok(())
 }
 
-/// Writes a long number.
-fn push_long(out: &mut Vec<u8>, number: u64) -> Told {
-    let mut buffer = Buffer::new();
-    out.extend_from_slice(buffer.format(number).as_bytes())?;
+/// Writes how many bits a node has, if they are always as many.
+fn push_bits(bits: Option<u64>, out: &mut Vec<u8>) -> Told
+    ensures { OnOk result (out.new.items ≡ out.old.items ++ bits_text bits) }
+{
+    match bits {
+        Some(bits) => {
+            let mut buffer = Buffer::new();
+            out.extend_from_slice(buffer.format(bits).as_bytes())?;
+        }
+        None => out.push(b'-')?,
+    }
     Ok(())
 }

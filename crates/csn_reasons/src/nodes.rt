@@ -1,10 +1,11 @@
 //! The nodes of a description, and what stands round one.
 
-ghost use Rattle.std.specs.Prelude.{◌≡◌, ◌≤◌, [], ◌∷◌, IfOk, length, slice_get};
+ghost use Rattle.std.specs.Prelude.{◌≡◌, ◌<◌, ◌≤◌, ◌⊎◌, ℕ, List, [], ◌∷◌, Some, IfOk, length, get_or, slice_get};
 ghost use Rattle.std.specs.Option.{option_copied};
+ghost use Rattle.csn_desc.specs.declared.node.Node.{Node};
 ghost use Rattle.csn_desc.specs.Nodes.{parts_of};
 ghost use Rattle.csn_desc.specs.declared.desc.TheConstants.{MOST_NODES};
-ghost use Rattle.csn_reasons.specs.Paths.{place_among};
+ghost use Rattle.csn_reasons.specs.Paths.{AreParents, LeadsUp, place_among};
 
 use csn_bits::NoMemory;
 use csn_desc::{Desc, MOST_NODES, Node, Parts};
@@ -46,15 +47,13 @@ fn only(part: u16, at: u16) -> Option<u16>
     if at == 0 { Some(part) } else { None }
 }
 
-/// Which part of a node another one is, counted from 0.
-pub(crate) fn place_in(node: &Node, part: u16) -> u16
-    ensures { result ≡ place_among part (parts_of node.now) }
+/// Which of some parts a node is, counted from 0.
+pub(crate) fn place_in(parts: &Parts, part: u16) -> u16
+    ensures { result ≡ place_among part parts.now }
 {
-    for at in 0..MOST_NODES {
-        match part_of(node, at) {
-            Some(other) if other == part => return at,
-            Some(_) => (),
-            None => return 0,
+    for at in 0..parts.len() {
+        if parts.get(at) == part {
+            return at;
         }
     }
     0
@@ -73,7 +72,7 @@ pub(crate) fn node_at(desc: &Desc, number: u16) -> Option<&Node>
 
 /// For each node the node that it is a part of, and for the root itself.
 pub(crate) fn parents_of(alloc: Global, desc: &Desc) -> Result<Vec<u16>, NoMemory>
-    ensures { IfOk result (λ parents. length parents.items ≡ length desc.now.nodes) }
+    ensures { IfOk result (λ parents. AreParents desc.now.nodes parents.items) }
 {
     let mut parents = vec![in alloc; 0u16; desc.len() as usize]?;
     for number in 0..desc.len() {
@@ -83,7 +82,12 @@ pub(crate) fn parents_of(alloc: Global, desc: &Desc) -> Result<Vec<u16>, NoMemor
 }
 
 /// Notes the parts of a node as such.
-fn note_parts(node: &Node, number: u16, parents: &mut [u16]) {
+fn note_parts(node: &Node, number: u16, parents: &mut [u16])
+    ensures same { length parents.new ≡ length parents.old }
+    ensures noted { (j i : ℕ) → slice_get (parts_of node.now) j ≡ Some i → i < length parents.old → get_or parents.new i 0 ≡ number }
+    ensures others { (i : ℕ) → (get_or parents.new i 0 ≡ get_or parents.old i 0)
+        ⊎ ((get_or parents.new i 0 ≡ number) × (j : ℕ) × (slice_get (parts_of node.now) j ≡ Some i)) }
+{
     for at in 0..MOST_NODES {
         let Some(part) = part_of(node, at) else {
             return;
@@ -95,18 +99,27 @@ fn note_parts(node: &Node, number: u16, parents: &mut [u16]) {
 }
 
 /// The nodes from one up to the root, with both.
-pub(crate) fn way_up(alloc: Global, parents: &[u16], node: u16) -> Result<Vec<u16>, NoMemory> {
+pub(crate) fn way_up(alloc: Global, parents: &[u16], node: u16) -> Result<Vec<u16>, NoMemory>
+    ensures { IfOk result (λ up. (nodes : List Node) → AreParents nodes parents.now → node < length nodes → LeadsUp nodes node up.items) }
+{
     let mut up = Vec::new(alloc);
     let mut here = node;
     for _ in 0..parents.len() {
         up.push(here)?;
         if here == 0 {
-            break;
+            return Ok(up);
         }
-        here = match parents.get(here as usize) {
-            Some(parent) => *parent,
-            None => 0,
-        };
+        here = above(parents, here);
     }
     Ok(up)
+}
+
+/// The node that one is a part of, where these are such nodes.
+fn above(parents: &[u16], node: u16) -> u16
+    ensures { result ≡ get_or parents.now node 0 }
+{
+    match parents.get(node as usize) {
+        Some(parent) => *parent,
+        None => 0,
+    }
 }

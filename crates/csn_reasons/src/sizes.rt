@@ -1,5 +1,7 @@
 //! How many bits nodes have.
 
+ghost use Rattle.std.specs.Prelude.{◌≡◌, IfOk, length};
+
 use crate::nodes::part_of;
 use csn_bits::NoMemory;
 use csn_desc::{Count, Desc, MOST_NODES, Node};
@@ -137,4 +139,24 @@ pub(crate) fn sizes_of(alloc: Global, desc: &Desc) -> Result<Vec<Size>, NoMemory
         }
     }
     Ok(sizes)
+}
+
+/// How many bits each node of a description has, where they are always as many.
+pub(crate) fn constants_of(alloc: Global, desc: &Desc) -> Result<Vec<Option<u64>>, NoMemory>
+    ensures { IfOk result (λ bits. length bits.items ≡ length desc.now.nodes) }
+{
+    let sizes = sizes_of(alloc, desc)?;
+    let mut bits = Vec::new(alloc);
+    for number in 0..desc.len() {
+        bits.push(constant(size_at(&sizes, number)))?;
+    }
+    Ok(bits)
+}
+
+/// So many bits, where it is always as many.
+fn constant(size: Size) -> Option<u64> {
+    match size.most {
+        Some(most) if most == size.least => Some(most),
+        _ => None,
+    }
 }

@@ -1,5 +1,5 @@
-use Rattle.std.proofs.Common.{◌≡◌, length}
+use Rattle.csn_reasons.proofs.Ways.{AreNoted}
 use Rattle.csn_reasons.proofs.nodes.parents_of.Given as goal
 
 abbrev pub invariant-loop-number : goal.invariant-loop-number
-invariant-loop-number l = length l.parents.items ≡ length l.desc.nodes
+invariant-loop-number l = AreNoted l.desc.nodes l.number l.parents.items

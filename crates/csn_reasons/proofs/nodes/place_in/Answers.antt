@@ -1,31 +1,25 @@
-use Rattle.std.proofs.Common.{◌≡◌, ℕ, ◌<◌, ◌≤◌, false, length, Some, None, arith, below_more}
-use Rattle.std.specs.Prelude.{slice_get, ◌==◌}
-use Rattle.csn_desc.specs.Nodes.{parts_of}
-use Rattle.csn_desc.specs.declared.desc.TheConstants.{MOST_NODES}
-use Rattle.csn_reasons.proofs.Placed.{apart_test, none_behind, place_here, place_none}
+use Rattle.std.proofs.Common.{◌≡◌, false, get_or, sym, ◌∙◌, arith, below_more, ne_eqb}
+use Rattle.std.specs.Prelude.{◌==◌}
+use Rattle.std.proofs.lemmas.Option.{get_or_from_slice_get}
+use Rattle.csn_reasons.proofs.Placed.{place_here, place_none}
 use Rattle.csn_reasons.proofs.nodes.place_in.Goals as goal
 
-pub returns-in-Some : goal.returns-in-Some
-returns-in-Some c =
-    let here : slice_get (parts_of c.args.node.now) c.loop-at.at ≡ Some c.in-Some.other = cc in
-    place_here c.args.part (parts_of c.args.node.now) c.loop-at.at c.in-Some.other here c.if-other-part.true c.loop-at.invariant.others
-
-pub returns-in-None : goal.returns-in-None
-returns-in-None c =
-    let none : slice_get (parts_of c.args.node.now) c.loop-at.at ≡ None = cc in
-    place_none c.args.part (parts_of c.args.node.now) c.loop-at.at (none_behind (parts_of c.args.node.now) c.loop-at.at none) c.loop-at.invariant.others
+pub returns-then-get-part : goal.returns-then-get-part
+returns-then-get-part c =
+    let parts = c.args.parts.now in
+    let at = c.loop-at.at in
+    place_here c.args.part parts at 0 (omega (arith, c.loop-at-test.true, c.len-at-end.ensures.len))
+    (get_or_from_slice_get parts at c.get.result 0 c.get.ensures ∙ c.if-get-part.true) c.loop-at.invariant
 
 pub loop-at-preserved : goal.loop-at-preserved
 loop-at-preserved c =
-    let here : slice_get (parts_of c.args.node.now) c.loop-at.at ≡ Some c.in-Some.other = cc in
-    record {
-      few = λ some. c.part_of.ensures.few;
-      others = below_more (λ k. (other : ℕ) → slice_get (parts_of c.args.node.now) k ≡ Some other → (other == c.args.part) ≡ false)
-          c.loop-at.at c.loop-at.invariant.others
-          (λ other there. let e : other ≡ c.in-Some.other = cc in apart_test other c.args.part (λ same. c.if-other-part.false (cc)));
-    }
+    let parts = c.args.parts.now in
+    let at = c.loop-at.at in
+    let here = get_or_from_slice_get parts at c.get.result 0 c.get.ensures in
+    below_more (λ k. (get_or parts k 0 == c.args.part) ≡ false) at c.loop-at.invariant
+    (ne_eqb (get_or parts at 0) c.args.part (λ same. c.if-get-part.false (sym here ∙ same)))
 
 pub returns : goal.returns
 returns c =
-    let few : length (parts_of c.args.node.now) ≤ MOST_NODES = c.loop-at.invariant.few (omega arith) in
-    place_none c.args.part (parts_of c.args.node.now) c.loop-at.at (omega (arith, few)) c.loop-at.invariant.others
+    place_none c.args.part c.args.parts.now 0
+    (λ k below. c.loop-at.invariant k (omega (arith, below, c.loop-at-test.false, c.len-at-end.ensures.len)))
