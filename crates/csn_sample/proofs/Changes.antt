@@ -1,6 +1,6 @@
 -- Lists with a change.
-use Rattle.std.specs.Prelude.{◌≡◌, refl, ℕ, ◌+◌, ◌-◌, ◌<◌, ◌≤◌, List, [], ◌∷◌, ◌++◌, length, take, drop, min, slice_index}
-use Rattle.std.proofs.Common.{◌∙◌, sym, ap, arith, append-nil, append_assoc}
+use Rattle.std.specs.Prelude.{◌≡◌, ℕ, ◌+◌, ◌-◌, ◌<◌, ◌≤◌, List, [], ◌∷◌, ◌++◌, length, take, drop, min, slice_index}
+use Rattle.std.proofs.Common.{◌∙◌, sym, ap, append-nil, append_assoc}
 use Rattle.std.proofs.lemmas.List.{drop_more, at_drop_all, take-take, take_min}
 use Rattle.std.proofs.Math.Nat.{min-le_right}
 use Rattle.csn_bits.specs.Octets.{bits_of_octets}

@@ -1,8 +1,10 @@
 -- Bits that are drawn one behind another, and spans that are added up.
-use Rattle.std.proofs.Common.{◌≡◌, ℕ, zero, suc, ◌+◌, ◌-◌, ◌*◌, ◌/◌, ◌%◌, ◌^◌, ◌<◌, ◌≤◌, List, map, [], ◌∷◌, ◌++◌, length, take, drop, get_or, refl, sym, ◌∙◌, ap, arith, Some, slice_get, Result, Ok, Err}
+use Rattle.std.proofs.Common.{◌≡◌, ℕ, zero, suc, ◌+◌, ◌-◌, ◌*◌, ◌/◌, ◌%◌, ◌^◌, ◌<◌, ◌≤◌, List, map, [], ◌∷◌, ◌++◌, length, take, drop, get_or, refl}
+use Rattle.std.proofs.Common.{sym, ◌∙◌, ap, arith, Some, slice_get, Result, Ok, Err}
 use Rattle.std.specs.Prelude.{replicate, min, sum_by, OnOk}
 use Rattle.std.proofs.Math.Nat.{pow-suc}
-use Rattle.std.proofs.lemmas.List.{append_assoc, drop-take, length-append, length-drop, length-map, length-replicate, length-take-le, map-append, replicate-append-replicate, take-append-drop, take-take, take_min, take_more}
+use Rattle.std.proofs.lemmas.List.{append_assoc, drop-take, length-append, length-drop, length-map, length-replicate, length-take-le, map-append}
+use Rattle.std.proofs.lemmas.List.{replicate-append-replicate, take-append-drop, take-take, take_min, take_more}
 use Rattle.std.proofs.lemmas.List.Sums.{sum_by-append}
 use Rattle.std.proofs.lemmas.Option.{slice_get_within, get_or_from_slice_get}
 use Rattle.csn_bits.specs.Octets.{IsBits, pattern}
@@ -65,7 +67,8 @@ pub pattern-next : (s : Symbol) (old middle new : List ℕ) (at bit : ℕ)
     → new ≡ old ++ spelled (replicate (at + 1) s) (length old)
 pattern-next s old middle new at bit before is last =
     let place : length middle ≡ length old + length (replicate at s) =
-    ap (λ l. length l) before ∙ length-append old (spelled (replicate at s) (length old)) ∙ ap (λ k. length old + k) (length-spelled (replicate at s) (length old)) in
+    ap (λ l. length l) before ∙ length-append old (spelled (replicate at s) (length old))
+    ∙ ap (λ k. length old + k) (length-spelled (replicate at s) (length old)) in
     bit_added old middle new (spelled (replicate at s) (length old)) bit before last
     ∙ ap (λ l. old ++ l) (
     ap (λ b. spelled (replicate at s) (length old) ++ b ∷ []) is
@@ -161,7 +164,8 @@ piece_packed bits old new from to number order within before is last =
     let piece : List ℕ = last_bits (take (to - from) (drop from bits)) in
     let sum : from + (to - from) ≡ to = omega (arith, order) in
     let long : length piece ≡ to - from =
-    length-map (take (to - from) (drop from bits)) (λ b. b % 2) ∙ length-take-le (to - from) (drop from bits) (omega (arith, order, within, length-drop from bits)) in
+    length-map (take (to - from) (drop from bits)) (λ b. b % 2)
+    ∙ length-take-le (to - from) (drop from bits) (omega (arith, order, within, length-drop from bits)) in
     let written : low_bits (to - from) number ≡ piece =
     ap (λ n. low_bits n number) (sym long) ∙ ap (λ n. low_bits (length piece) n) is
     ∙ low_bits-number_of piece (IsBits-last (take (to - from) (drop from bits))) in

@@ -1,10 +1,12 @@
 -- How marks are set.
-use Rattle.std.specs.Prelude.{◌≡◌, refl, ℕ, ◌+◌, ◌<◌, ◌≤◌, ◌⊎◌, ◌↔◌, Bool, true, false, List, [], ◌∷◌, ◌++◌, length, replicate, slice_get, slice_index_or, slice_set, Option, Some, None, IfSome}
+use Rattle.std.specs.Prelude.{◌≡◌, refl, ℕ, ◌+◌, ◌<◌, ◌≤◌, ◌⊎◌, ◌↔◌, Bool, true, false, List, [], ◌∷◌, ◌++◌, length, replicate, slice_get}
+use Rattle.std.specs.Prelude.{slice_index_or, slice_set, Option, Some, None, IfSome}
 use Rattle.std.specs.Option.{option_or}
 use Rattle.std.proofs.Common.{◌∙◌, inl, inr, sym, ap, subst, arith, eq-or-lt_of_le}
 use Rattle.std.proofs.Math.ListN.{get_or-eq_default}
 use Rattle.std.proofs.lemmas.Bool.{cases_eq, cases_lt}
-use Rattle.std.proofs.lemmas.List.{get_or-replicate, get_or-set_same, get_or-set_other, get_or_append_left, get_or_push, length-replicate, length-set, length_push}
+use Rattle.std.proofs.lemmas.List.{get_or-replicate, get_or-set_same, get_or-set_other, get_or_append_left, get_or_push, length-replicate, length-set}
+use Rattle.std.proofs.lemmas.List.{length_push}
 use Rattle.csn_desc.specs.declared.node.Node.{Node}
 use Rattle.csn_desc.specs.Nodes.{DescV}
 use Rattle.csn_sample.specs.declared.covering.Way.{Way}
@@ -105,7 +107,9 @@ set_again marks i way is = record {
         ∙ (ap (λ (k : ℕ). slice_index_or (slice_index_or marks i []) k false) at.1 ∙ is)
 
 -- a mark that is not set
-module _ (old : List (List Bool)) (before row : List Bool) (i way : ℕ) (inside : i < length old) (was : before ≡ slice_index_or old i []) (is : row ≡ slice_set before way true) (within : way < length before) where
+module _
+    (old : List (List Bool)) (before row : List Bool) (i way : ℕ) (inside : i < length old)
+    (was : before ≡ slice_index_or old i []) (is : row ≡ slice_set before way true) (within : way < length before) where
   row_at : slice_index_or (slice_set old i row) i [] ≡ row
   row_at = get_or-set_same old i row [] inside
 

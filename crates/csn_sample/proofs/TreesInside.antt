@@ -4,7 +4,7 @@ use Rattle.std.proofs.Common.{◌∙◌, inl, inr, sym, ap, subst, arith, eq-or-
 use Rattle.std.proofs.lemmas.Option.{slice_get_within, same_Some}
 use Rattle.csn_desc.specs.declared.node.Count.{Count}
 use Rattle.csn_desc.specs.declared.node.Node.{Node}
-use Rattle.csn_desc.specs.declared.node.Node.TheVariants.{Seq, Choice, Many, Trunc, Times, Window, Named}
+use Rattle.csn_desc.specs.declared.node.Node.TheVariants.{Seq, Choice, Many, Window, Named}
 use Rattle.csn_desc.specs.TreeV.{TreeV, bits, row, alt, named, trees_of, list_of}
 use Rattle.csn_desc.specs.Nodes.{DescV, parts_of}
 use Rattle.csn_desc.specs.Formed.{Formed, formed, PartsFormed, formed_end, formed_next}

@@ -7,11 +7,10 @@ use Rattle.csn_desc.specs.declared.node.Node.{Node}
 use Rattle.csn_desc.specs.Nodes.{DescV}
 use Rattle.csn_sample.specs.declared.covering.Way.{Way}
 use Rattle.csn_sample.specs.declared.covering.Example.{Example}
-use Rattle.csn_sample.specs.declared.sampler.Sampled.{Sampled}
 use Rattle.csn_sample.specs.declared.wish.Length.TheVariants.{AtMost}
 use Rattle.csn_sample.specs.Samples.{IsSample}
 use Rattle.csn_sample.specs.Ways.{ways, Meets}
-use Rattle.csn_sample.specs.Covering.{IsMarked, IsMet, AreMet, AreTold, IsExample, IsUnmetWith, AllUnmet, Sets}
+use Rattle.csn_sample.specs.Covering.{IsMarked, IsMet, AreMet, AreTold, IsExample, IsUnmetWith, AllUnmet}
 
 abbrev told : List (List Bool) → List Way → ℕ → ℕ → Type 0
 told marks unmet i way = Contains unmet (record { node = i; number = way }) ⊎ IsMarked marks i way

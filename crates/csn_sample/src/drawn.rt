@@ -1,6 +1,7 @@
 //! The bits of a block that are drawn, leaf after leaf. What they are is known only when they are judged.
 
-ghost use Rattle.std.specs.Prelude.{◌≡◌, ◌-◌, ◌%◌, ◌<◌, ◌≤◌, ◌↔◌, ℕ, List, [], ◌∷◌, ◌++◌, Contains, IfOk, IfSome, IsTrue, OnOk, length, map, max, min, replicate, take};
+ghost use Rattle.std.specs.Prelude.{◌≡◌, ◌-◌, ◌%◌, ◌^◌, ◌<◌, ◌≤◌, ◌↔◌, ℕ, List, [], ◌∷◌, ◌++◌, Contains, IfOk, IfSome, IsTrue, OnOk, length, map};
+ghost use Rattle.std.specs.Prelude.{max, min, replicate, take};
 ghost use Rattle.csn_bits.specs.Numbers.{low_bits, number_of};
 ghost use Rattle.csn_bits.specs.Octets.{IsBits};
 ghost use Rattle.csn_desc.specs.Spelled.{IsSpare, spelled, symbol_bit};
@@ -162,7 +163,8 @@ impl Drawn {
 
     /// A spare bit: a receiver takes either.
     pub fn spare(&mut self, symbol: Symbol, reading: Reading) -> Result<(), Stop>
-        ensures { OnOk result ((bit : ℕ) × (self.new.bits.items ≡ self.old.bits.items ++ bit ∷ []) × IsSpare reading symbol (length self.old.bits.items) (bit ∷ [])) }
+        ensures { OnOk result ((bit : ℕ) × (self.new.bits.items ≡ self.old.bits.items ++ bit ∷ [])
+            × IsSpare reading symbol (length self.old.bits.items) (bit ∷ [])) }
     {
         let bit = match reading {
             Reading::Sent => self.bit_of(symbol),
@@ -173,7 +175,8 @@ impl Drawn {
 
     /// Padding, to the end of the room where a length is asked for. A receiver takes any bits.
     pub fn padding(&mut self, reading: Reading, room: Room) -> Result<(), Stop>
-        ensures { OnOk result ((added : List ℕ) × (self.new.bits.items ≡ self.old.bits.items ++ added) × IsSpare reading Low (length self.old.bits.items) added) }
+        ensures { OnOk result ((added : List ℕ) × (self.new.bits.items ≡ self.old.bits.items ++ added)
+            × (0 < length added) × (room.least ≤ length added) × IsSpare reading Low (length self.old.bits.items) added) }
     {
         let as_sent = reading == Reading::Sent || self.generator.one_in(2);
         let count = self.count_in(room).max(1);
@@ -186,7 +189,7 @@ impl Drawn {
 
     /// So many bits of the padding pattern.
     fn pattern(&mut self, count: u64) -> Result<(), Stop>
-        ensures { OnOk result ((added : List ℕ) × (self.new.bits.items ≡ self.old.bits.items ++ added)
+        ensures { OnOk result ((added : List ℕ) × (self.new.bits.items ≡ self.old.bits.items ++ added) × (length added ≡ count)
             × ((reading : ReadingV) → IsSpare reading Low (length self.old.bits.items) added)) }
     {
         for _ in 0..count {
@@ -218,7 +221,7 @@ impl Drawn {
 
     /// Any bits, to the end of the room where a length is asked for.
     pub fn rest(&mut self, room: Room) -> Result<(), Stop>
-        ensures { OnOk result ((added : List ℕ) × (self.new.bits.items ≡ self.old.bits.items ++ added) × IsBits added) }
+        ensures { OnOk result ((added : List ℕ) × (self.new.bits.items ≡ self.old.bits.items ++ added) × (room.least ≤ length added) × IsBits added) }
     {
         let width = self.count_in(room);
         self.field(width)
@@ -238,7 +241,7 @@ impl Drawn {
     /// The bits of a field of at most 16 bits on which counts are, and the number that they write: mostly one of those that
     /// suit, of which small ones come more often.
     pub fn number(&mut self, width: u64, suits: Span) -> Result<u32, Stop>
-        ensures { IfOk result (λ number. self.new.bits.items ≡ self.old.bits.items ++ low_bits (min width 16) number) }
+        ensures { IfOk result (λ number. (number < 2 ^ min width 16) × (self.new.bits.items ≡ self.old.bits.items ++ low_bits (min width 16) number)) }
     {
         let width = width.min(16) as u32;
         let greatest = (1 << width) - 1;
@@ -289,7 +292,8 @@ impl Drawn {
 
     /// How many bits a part gets that takes any number of them.
     fn count_in(&mut self, room: Room) -> u64
-        ensures { self.new.bits.items ≡ self.old.bits.items }
+        ensures least { room.least ≤ result }
+        ensures kept { self.new.bits.items ≡ self.old.bits.items }
     {
         let more = room.most.saturating_sub(room.least).min(FEW);
         let few = self.generator.below(more.saturating_add(1).max(1));

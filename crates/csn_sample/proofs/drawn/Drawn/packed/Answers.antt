@@ -11,5 +11,7 @@ loop-piece-preserved c =
     omega (arith, c.min-to.ensures, c.len-in-loop-piece.ensures) in
     next_packed c.args.self.now.bits.items c.loop-piece.packed c.add.new.self c.loop-piece.piece c.min-to.result c.packed_number.result
     some end c.loop-piece.invariant
-    (c.packed_number.ensures ∙ ap (λ l. number_of (map (λ bit. bit % 2) (take (c.min-to.result - 32 * c.loop-piece.piece) (drop (32 * c.loop-piece.piece) l)))) c.deref.ensures.value)
+    (c.packed_number.ensures
+    ∙ ap (λ l. number_of (map (λ bit. bit % 2) (take (c.min-to.result - 32 * c.loop-piece.piece) (drop (32 * c.loop-piece.piece) l))))
+    c.deref.ensures.value)
     c.in_ok-add.ensures.ok

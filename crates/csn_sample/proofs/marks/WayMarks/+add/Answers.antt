@@ -63,7 +63,8 @@ add_inside-add-requires g t c κs within = (
     within,
     (
       c.requires.marks,
-      only_part c.args.plan.now c.args.deep c.args.node.now (Window c.in-Window.unit c.in-Window.count c.in-Window.part) c.in-Window.part c.in-Window.is refl c.requires.room,
+      only_part c.args.plan.now c.args.deep c.args.node.now (Window c.in-Window.unit c.in-Window.count c.in-Window.part)
+          c.in-Window.part c.in-Window.is refl c.requires.room,
     ),
   ),
 )

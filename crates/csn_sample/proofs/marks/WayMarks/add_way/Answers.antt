@@ -1,4 +1,4 @@
-use Rattle.std.proofs.Common.{refl, arith}
+use Rattle.std.proofs.Common.{arith}
 use Rattle.csn_sample.proofs.marks.WayMarks.add_way.Goals as goal
 
 pub set-requires : goal.set-requires
