@@ -309,7 +309,8 @@ module _ (rules : RulesV) (r : Reading) (void : ExprV → Bool)
         let first = items_given i k left round few quiet in
         let again = items_given t k left round few quiet in
         let os = items_origins r void round (Names left round) tail.items in
-        let behind : List Origin = at tail.end.braces round ∷ at tail.end.again.at round ∷ at tail.end.again.at round ∷ (os ++ at tail.end.stop.at round ∷ []) in
+        let behind : List Origin =
+        at tail.end.braces round ∷ at tail.end.again.at round ∷ at tail.end.again.at round ∷ (os ++ at tail.end.stop.at round ∷ []) in
         let more : List Placed = placed (Many (many + 1)) tail.end.braces
         ∷ placed (Seq ((many + 2) ∷ turn_parts)) tail.end.again.at
         ∷ placed (Lits tail.end.again.run) tail.end.again.at

@@ -16,23 +16,27 @@ use Rattle.csn_places.proofs.walk.Walker.+walk.Goals as goal
 
 pub walk-returns-in-Lits : goal.walk-returns-in-Lits
 walk-returns-in-Lits t c =
+    let is = known c.args.x.now c.x.inside.span c.x.inside.form _ c.x.view_is c.in-Lits.is in
     on-ok c.push_origin.result (λ h void told. adds-form c.args.self.now.names.now c.args.self.now.reading void c.args.left c.args.round.now
-    c.args.x.now _ c.args.out.now.items c.push_origin.new.out.items (known c.args.x.now c.x.inside.span c.x.inside.form _ c.x.view_is c.in-Lits.is) h) c.push_origin.ensures
+    c.args.x.now _ c.args.out.now.items c.push_origin.new.out.items is h) c.push_origin.ensures
 
 pub walk-returns-in-Null : goal.walk-returns-in-Null
 walk-returns-in-Null t c =
+    let is = known c.args.x.now c.x.inside.span c.x.inside.form _ c.x.view_is c.in-Null.is in
     on-ok c.push_origin-in-Null.result (λ h void told. adds-form c.args.self.now.names.now c.args.self.now.reading void c.args.left c.args.round.now
-    c.args.x.now _ c.args.out.now.items c.push_origin-in-Null.new.out.items (known c.args.x.now c.x.inside.span c.x.inside.form _ c.x.view_is c.in-Null.is) h) c.push_origin-in-Null.ensures
+    c.args.x.now _ c.args.out.now.items c.push_origin-in-Null.new.out.items is h) c.push_origin-in-Null.ensures
 
 pub walk-returns-in-Bit : goal.walk-returns-in-Bit
 walk-returns-in-Bit t c =
+    let is = known c.args.x.now c.x.inside.span c.x.inside.form _ c.x.view_is c.in-Bit.is in
     on-ok c.push_origin-in-Bit.result (λ h void told. adds-form c.args.self.now.names.now c.args.self.now.reading void c.args.left c.args.round.now
-    c.args.x.now _ c.args.out.now.items c.push_origin-in-Bit.new.out.items (known c.args.x.now c.x.inside.span c.x.inside.form _ c.x.view_is c.in-Bit.is) h) c.push_origin-in-Bit.ensures
+    c.args.x.now _ c.args.out.now.items c.push_origin-in-Bit.new.out.items is h) c.push_origin-in-Bit.ensures
 
 pub walk-returns-in-Octet : goal.walk-returns-in-Octet
 walk-returns-in-Octet t c =
+    let is = known c.args.x.now c.x.inside.span c.x.inside.form _ c.x.view_is c.in-Octet.is in
     on-ok c.push_origin-in-Octet.result (λ h void told. adds-form c.args.self.now.names.now c.args.self.now.reading void c.args.left c.args.round.now
-    c.args.x.now _ c.args.out.now.items c.push_origin-in-Octet.new.out.items (known c.args.x.now c.x.inside.span c.x.inside.form _ c.x.view_is c.in-Octet.is) h) c.push_origin-in-Octet.ensures
+    c.args.x.now _ c.args.out.now.items c.push_origin-in-Octet.new.out.items is h) c.push_origin-in-Octet.ensures
 
 pub walk-walk_name-requires : goal.walk-walk_name-requires
 walk-walk_name-requires t c =
@@ -40,8 +44,9 @@ walk-walk_name-requires t c =
 
 pub walk-returns-in-Name : goal.walk-returns-in-Name
 walk-returns-in-Name t c =
+    let is = known c.args.x.now c.x.inside.span c.x.inside.form _ c.x.view_is c.in-Name.is in
     on-ok c.walk_name.result (λ h void told. adds-form c.args.self.now.names.now c.args.self.now.reading void c.args.left c.args.round.now
-    c.args.x.now _ c.args.out.now.items c.walk_name.new.out.items (known c.args.x.now c.x.inside.span c.x.inside.form _ c.x.view_is c.in-Name.is) (h void told)) c.walk_name.ensures
+    c.args.x.now _ c.args.out.now.items c.walk_name.new.out.items is (h void told)) c.walk_name.ensures
 
 pub walk-walk-requires : goal.walk-walk-requires
 walk-walk-requires t c =
@@ -52,11 +57,13 @@ walk-walk-requires t c =
 pub walk-returns-in_ok-push_origin-in-Labelled : goal.walk-returns-in_ok-push_origin-in-Labelled
 walk-returns-in_ok-push_origin-in-Labelled t c =
     let is = known c.args.x.now c.x.inside.span c.x.inside.form _ c.x.view_is c.in-Labelled.is in
-    on-ok c.walk.result (λ h void told. let part = ap (origins c.args.self.now.reading void c.args.round.now (named_at c.args.self.now.names.now c.args.self.now.reading void c.args.left c.args.round.now)) c.deref.ensures in
+    on-ok c.walk.result (λ h void told.
+    let names = named_at c.args.self.now.names.now c.args.self.now.reading void c.args.left c.args.round.now in
+    let part = ap (origins c.args.self.now.reading void c.args.round.now names) c.deref.ensures in
     adds-form c.args.self.now.names.now c.args.self.now.reading void c.args.left c.args.round.now
     c.args.x.now _ c.args.out.now.items c.walk.new.out.items is
     (adds-behind c.args.out.now.items c.push_origin-in-Labelled.new.out.items c.walk.new.out.items (at c.x.inside.span.start c.args.round.now ∷ [])
-    (origins c.args.self.now.reading void c.args.round.now (named_at c.args.self.now.names.now c.args.self.now.reading void c.args.left c.args.round.now) c.in-Labelled.part.value) c.in_ok-push_origin-in-Labelled.ensures
+    (origins c.args.self.now.reading void c.args.round.now names c.in-Labelled.part.value) c.in_ok-push_origin-in-Labelled.ensures
     (adds-told c.push_origin-in-Labelled.new.out.items c.walk.new.out.items _ _ part (h void told)))) c.walk.ensures
 
 pub walk-walk-requires-in-Group : goal.walk-walk-requires-in-Group
@@ -68,10 +75,13 @@ walk-walk-requires-in-Group t c =
 pub walk-returns-in-Group : goal.walk-returns-in-Group
 walk-returns-in-Group t c =
     let is = known c.args.x.now c.x.inside.span c.x.inside.form _ c.x.view_is c.in-Group.is in
-    on-ok c.walk-in-Group.result (λ h void told. let part = ap (origins c.args.self.now.reading void c.args.round.now (named_at c.args.self.now.names.now c.args.self.now.reading void c.args.left c.args.round.now)) c.deref-in-Group.ensures in
+    on-ok c.walk-in-Group.result (λ h void told.
+    let names = named_at c.args.self.now.names.now c.args.self.now.reading void c.args.left c.args.round.now in
+    let part = ap (origins c.args.self.now.reading void c.args.round.now names) c.deref-in-Group.ensures in
     adds-form c.args.self.now.names.now c.args.self.now.reading void c.args.left c.args.round.now
     c.args.x.now _ c.args.out.now.items c.walk-in-Group.new.out.items is
-    (adds-told c.args.out.now.items c.walk-in-Group.new.out.items _ (origins c.args.self.now.reading void c.args.round.now (named_at c.args.self.now.names.now c.args.self.now.reading void c.args.left c.args.round.now) c.in-Group.part.value) part (h void told))) c.walk-in-Group.ensures
+    (adds-told c.args.out.now.items c.walk-in-Group.new.out.items _
+    (origins c.args.self.now.reading void c.args.round.now names c.in-Group.part.value) part (h void told))) c.walk-in-Group.ensures
 
 pub walk-walk_items-requires : goal.walk-walk_items-requires
 walk-walk_items-requires t c =
@@ -86,12 +96,14 @@ walk-returns-in_ok-push_origin-in-Seq t c =
     let is = known c.args.x.now c.x.inside.span c.x.inside.form _ c.x.view_is c.in-Seq.is in
     let all : take c.len.result c.in-Seq.items ≡ c.in-Seq.items =
     take_all c.len.result c.in-Seq.items (omega (arith, c.len.ensures.len)) in
-    on-ok c.walk_items.result (λ h void told. adds-form c.args.self.now.names.now c.args.self.now.reading void c.args.left c.args.round.now
+    on-ok c.walk_items.result (λ h void told.
+    let names = named_at c.args.self.now.names.now c.args.self.now.reading void c.args.left c.args.round.now in
+    adds-form c.args.self.now.names.now c.args.self.now.reading void c.args.left c.args.round.now
     c.args.x.now _ c.args.out.now.items c.walk_items.new.out.items is
     (adds-behind c.args.out.now.items c.push_origin-in-Seq.new.out.items c.walk_items.new.out.items (at c.x.inside.span.start c.args.round.now ∷ [])
-    (items_origins c.args.self.now.reading void c.args.round.now (named_at c.args.self.now.names.now c.args.self.now.reading void c.args.left c.args.round.now) (exprs_of c.in-Seq.items)) c.in_ok-push_origin-in-Seq.ensures
+    (items_origins c.args.self.now.reading void c.args.round.now names (exprs_of c.in-Seq.items)) c.in_ok-push_origin-in-Seq.ensures
     (adds-told c.push_origin-in-Seq.new.out.items c.walk_items.new.out.items _ _
-    (ap (λ l. items_origins c.args.self.now.reading void c.args.round.now (named_at c.args.self.now.names.now c.args.self.now.reading void c.args.left c.args.round.now) (exprs_of l)) all) (h void told)))) c.walk_items.ensures
+    (ap (λ l. items_origins c.args.self.now.reading void c.args.round.now names (exprs_of l)) all) (h void told)))) c.walk_items.ensures
 
 pub walk-walk_items-requires-in-Cut : goal.walk-walk_items-requires-in-Cut
 walk-walk_items-requires-in-Cut t c =
@@ -106,12 +118,14 @@ walk-returns-in_ok-push_origin-in-Cut t c =
     let is = known c.args.x.now c.x.inside.span c.x.inside.form _ c.x.view_is c.in-Cut.is in
     let all : take c.len-in-Cut.result c.in-Cut.items ≡ c.in-Cut.items =
     take_all c.len-in-Cut.result c.in-Cut.items (omega (arith, c.len-in-Cut.ensures.len)) in
-    on-ok c.walk_items-in-Cut.result (λ h void told. adds-form c.args.self.now.names.now c.args.self.now.reading void c.args.left c.args.round.now
+    on-ok c.walk_items-in-Cut.result (λ h void told.
+    let names = named_at c.args.self.now.names.now c.args.self.now.reading void c.args.left c.args.round.now in
+    adds-form c.args.self.now.names.now c.args.self.now.reading void c.args.left c.args.round.now
     c.args.x.now _ c.args.out.now.items c.walk_items-in-Cut.new.out.items is
     (adds-behind c.args.out.now.items c.push_origin-in-Cut.new.out.items c.walk_items-in-Cut.new.out.items (at c.x.inside.span.start c.args.round.now ∷ [])
-    (items_origins c.args.self.now.reading void c.args.round.now (named_at c.args.self.now.names.now c.args.self.now.reading void c.args.left c.args.round.now) (exprs_of c.in-Cut.items)) c.in_ok-push_origin-in-Cut.ensures
+    (items_origins c.args.self.now.reading void c.args.round.now names (exprs_of c.in-Cut.items)) c.in_ok-push_origin-in-Cut.ensures
     (adds-told c.push_origin-in-Cut.new.out.items c.walk_items-in-Cut.new.out.items _ _
-    (ap (λ l. items_origins c.args.self.now.reading void c.args.round.now (named_at c.args.self.now.names.now c.args.self.now.reading void c.args.left c.args.round.now) (exprs_of l)) all) (h void told)))) c.walk_items-in-Cut.ensures
+    (ap (λ l. items_origins c.args.self.now.reading void c.args.round.now names (exprs_of l)) all) (h void told)))) c.walk_items-in-Cut.ensures
 
 pub walk-walk_choice-requires : goal.walk-walk_choice-requires
 walk-walk_choice-requires t c =
@@ -121,8 +135,9 @@ walk-walk_choice-requires t c =
 
 pub walk-returns-in-Choice : goal.walk-returns-in-Choice
 walk-returns-in-Choice t c =
+    let is = known c.args.x.now c.x.inside.span c.x.inside.form _ c.x.view_is c.in-Choice.is in
     on-ok c.walk_choice.result (λ h void told. adds-form c.args.self.now.names.now c.args.self.now.reading void c.args.left c.args.round.now
-    c.args.x.now _ c.args.out.now.items c.walk_choice.new.out.items (known c.args.x.now c.x.inside.span c.x.inside.form _ c.x.view_is c.in-Choice.is) (h void told)) c.walk_choice.ensures
+    c.args.x.now _ c.args.out.now.items c.walk_choice.new.out.items is (h void told)) c.walk_choice.ensures
 
 pub walk-walk-requires-in-Received : goal.walk-walk-requires-in-Received
 walk-walk-requires-in-Received t c =
@@ -133,9 +148,13 @@ walk-walk-requires-in-Received t c =
 pub walk-returns-in-Received : goal.walk-returns-in-Received
 walk-returns-in-Received t c =
     let is = known c.args.x.now c.x.inside.span c.x.inside.form _ c.x.view_is c.in-Sends.is in
-    on-ok c.walk-in-Received.result (λ h void told. let part = ap (origins c.args.self.now.reading void c.args.round.now (named_at c.args.self.now.names.now c.args.self.now.reading void c.args.left c.args.round.now)) c.deref-in-Received.ensures in
-    let side : origins c.args.self.now.reading void c.args.round.now (named_at c.args.self.now.names.now c.args.self.now.reading void c.args.left c.args.round.now) c.in-Sends.one.value ≡ form_origins c.args.self.now.reading void c.args.round.now (named_at c.args.self.now.names.now c.args.self.now.reading void c.args.left c.args.round.now) c.args.self.now.reading c.x.inside.span.start (sends c.in-Sends.one.value c.in-Sends.other.value) =
-    sym (ap (λ z. form_origins c.args.self.now.reading void c.args.round.now (named_at c.args.self.now.names.now c.args.self.now.reading void c.args.left c.args.round.now) z c.x.inside.span.start (sends c.in-Sends.one.value c.in-Sends.other.value)) c.in-Received.is) in
+    on-ok c.walk-in-Received.result (λ h void told.
+    let names = named_at c.args.self.now.names.now c.args.self.now.reading void c.args.left c.args.round.now in
+    let part = ap (origins c.args.self.now.reading void c.args.round.now names) c.deref-in-Received.ensures in
+    let form = sends c.in-Sends.one.value c.in-Sends.other.value in
+    let side : origins c.args.self.now.reading void c.args.round.now names c.in-Sends.one.value
+    ≡ form_origins c.args.self.now.reading void c.args.round.now names c.args.self.now.reading c.x.inside.span.start form =
+    sym (ap (λ z. form_origins c.args.self.now.reading void c.args.round.now names z c.x.inside.span.start form) c.in-Received.is) in
     adds-form c.args.self.now.names.now c.args.self.now.reading void c.args.left c.args.round.now
     c.args.x.now _ c.args.out.now.items c.walk-in-Received.new.out.items is
     (adds-told c.args.out.now.items c.walk-in-Received.new.out.items _ _ (part ∙ side) (h void told))) c.walk-in-Received.ensures
@@ -149,9 +168,13 @@ walk-walk-requires-in-Sent t c =
 pub walk-returns-in-Sent : goal.walk-returns-in-Sent
 walk-returns-in-Sent t c =
     let is = known c.args.x.now c.x.inside.span c.x.inside.form _ c.x.view_is c.in-Sends.is in
-    on-ok c.walk-in-Sent.result (λ h void told. let part = ap (origins c.args.self.now.reading void c.args.round.now (named_at c.args.self.now.names.now c.args.self.now.reading void c.args.left c.args.round.now)) c.deref-in-Sent.ensures in
-    let side : origins c.args.self.now.reading void c.args.round.now (named_at c.args.self.now.names.now c.args.self.now.reading void c.args.left c.args.round.now) c.in-Sends.other.value ≡ form_origins c.args.self.now.reading void c.args.round.now (named_at c.args.self.now.names.now c.args.self.now.reading void c.args.left c.args.round.now) c.args.self.now.reading c.x.inside.span.start (sends c.in-Sends.one.value c.in-Sends.other.value) =
-    sym (ap (λ z. form_origins c.args.self.now.reading void c.args.round.now (named_at c.args.self.now.names.now c.args.self.now.reading void c.args.left c.args.round.now) z c.x.inside.span.start (sends c.in-Sends.one.value c.in-Sends.other.value)) c.in-Sent.is) in
+    on-ok c.walk-in-Sent.result (λ h void told.
+    let names = named_at c.args.self.now.names.now c.args.self.now.reading void c.args.left c.args.round.now in
+    let part = ap (origins c.args.self.now.reading void c.args.round.now names) c.deref-in-Sent.ensures in
+    let form = sends c.in-Sends.one.value c.in-Sends.other.value in
+    let side : origins c.args.self.now.reading void c.args.round.now names c.in-Sends.other.value
+    ≡ form_origins c.args.self.now.reading void c.args.round.now names c.args.self.now.reading c.x.inside.span.start form =
+    sym (ap (λ z. form_origins c.args.self.now.reading void c.args.round.now names z c.x.inside.span.start form) c.in-Sent.is) in
     adds-form c.args.self.now.names.now c.args.self.now.reading void c.args.left c.args.round.now
     c.args.x.now _ c.args.out.now.items c.walk-in-Sent.new.out.items is
     (adds-told c.args.out.now.items c.walk-in-Sent.new.out.items _ _ (part ∙ side) (h void told))) c.walk-in-Sent.ensures
@@ -192,7 +215,8 @@ walk_branches-loop-at-preserved t c =
     branches-next c.args.self.now.names.now c.args.self.now.reading void c.args.left c.args.round.now
     c.args.branches.now c.loop-at.at c.get-branch.result.now c.loop-at.out.items c.walk.new.out.items _ c.get-branch.ensures
     (sym (c.is_kept.ensures void told) ∙ c.if-not-is_kept.false) (c.loop-at.invariant void told)
-    (adds-told c.loop-at.out.items c.walk.new.out.items _ _ (ap (origins c.args.self.now.reading void c.args.round.now (named_at c.args.self.now.names.now c.args.self.now.reading void c.args.left c.args.round.now)) body) (c.in_ok-walk.ensures void told))
+    (adds-told c.loop-at.out.items c.walk.new.out.items _ _ (ap (origins c.args.self.now.reading void c.args.round.now
+    (named_at c.args.self.now.names.now c.args.self.now.reading void c.args.left c.args.round.now)) body) (c.in_ok-walk.ensures void told))
 
 pub walk_branches-returns : goal.walk_branches-returns
 walk_branches-returns t c =
@@ -212,7 +236,8 @@ walk_name-returns-in_ok-inner-in-Some t c =
     let some : rule_of c.args.self.now.names.now c.args.label.now ≡ Some c.rule.result.now =
     ap (rule_of c.args.self.now.names.now) (sym c.bytes.ensures.value) ∙ (c.in-Some.ensures.rule ∙ c.rule.ensures) in
     on-ok c.walk_rule.result (λ h void told. adds-told c.args.out.now.items c.walk_rule.new.out.items _ _
-    (rule-named c.args.self.now.names.now c.args.self.now.reading void c.args.left c.args.round.now c.args.label.now c.args.place c.rule.result.now c.in_ok-inner-in-Some.inner
+    (rule-named c.args.self.now.names.now c.args.self.now.reading void c.args.left c.args.round.now
+    c.args.label.now c.args.place c.rule.result.now c.in_ok-inner-in-Some.inner
     (λ p. omega (arith, p)) some c.in_ok-inner-in-Some.ensures) (h void told)) c.walk_rule.ensures
 
 pub walk_name-returns-then-left-eq0 : goal.walk_name-returns-then-left-eq0
@@ -220,7 +245,8 @@ walk_name-returns-then-left-eq0 t c =
     λ void told. let found = get_within c.args.self.now.names.now c.in-Some.number c.in-Some.ensures.within in
     let some : rule_of c.args.self.now.names.now c.args.label.now ≡ Some found.0 =
     ap (rule_of c.args.self.now.names.now) (sym c.bytes.ensures.value) ∙ (c.in-Some.ensures.rule ∙ found.1) in
-    adds-none c.args.out.now.items _ (last-named c.args.self.now.names.now c.args.self.now.reading void c.args.left c.args.round.now c.args.label.now c.args.place found.0
+    adds-none c.args.out.now.items _ (last-named c.args.self.now.names.now c.args.self.now.reading void c.args.left
+    c.args.round.now c.args.label.now c.args.place found.0
     (omega arith) some)
 
 pub walk_name-returns-in-None : goal.walk_name-returns-in-None
@@ -242,7 +268,8 @@ pub walk_rule-returns-in-Some : goal.walk_rule-returns-in-Some
 walk_rule-returns-in-Some t c =
     let some : tail_of c.args.rule.now ≡ Some (tail_view c.in-Some.tail) = sym c.in-Some.ensures.tail in
     on-ok c.walk_tail.result (λ h void told. adds-told c.args.out.now.items c.walk_tail.new.out.items _ _
-    (tail-rule-at c.args.self.now.names.now c.args.self.now.reading void c.args.left c.args.round.now c.args.rule.now (tail_view c.in-Some.tail) _ some (search rules)) (h void told)) c.walk_tail.ensures
+    (tail-rule-at c.args.self.now.names.now c.args.self.now.reading void c.args.left c.args.round.now c.args.rule.now
+    (tail_view c.in-Some.tail) _ some (search rules)) (h void told)) c.walk_tail.ensures
 
 pub walk_rule-returns-in-None : goal.walk_rule-returns-in-None
 walk_rule-returns-in-None t c =
