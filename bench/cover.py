@@ -1,15 +1,16 @@
 #!/usr/bin/env python3
 """Holds the test vectors that the companion makes against the program.
 
-usage: bench/cover.py [--bin PATH] [--companion PATH] [--blocks N] [--descriptions N] [--chance N] [--seed S] [FOLDER]
+usage: bench/cover.py [--bin PATH] [--companion PATH] [--blocks N] [--descriptions N] [--parts N] [--chance N] [--seed S]
+                      [FOLDER]
 
 The paths are crates/csn_cli/out/csn_cli and crates/csn_explain/out/csn_explain where they are left out. By each message of
-descriptions/ and of N random descriptions, 2,000 where that is left out, or of all *.csn1 of FOLDER whose rule is `M`, in both
-readings, `csn_cli show` answers each block of `blocks` with the tree that is told, takes each of `cover`, and answers each of
-`nearly` as is told: N blocks of `blocks` of the messages, 100,000 where that is left out, and as many of the others. Then it
-asks of the random descriptions whether some of 20,000 blocks by chance, or of the number that is given, go a way that no block
-of `cover` goes where it has told of one: a part, told by the path of its field, that is in none of them. Prints a table, and a
-line for each difference.
+descriptions/ and of N random descriptions, 2,000 where that is left out, of 4 to 20 parts or of as many as is given, or of all
+*.csn1 of FOLDER whose rule is `M`, in both readings, `csn_cli show` answers each block of `blocks` with the tree that is told,
+takes each of `cover`, and answers each of `nearly` as is told: N blocks of `blocks` of the messages, 100,000 where that is left
+out, and as many of the others. Then it asks of the random descriptions whether some of 20,000 blocks by chance, or of the
+number that is given (0 leaves this out), go a way that no block of `cover` goes where it has told of one: a part, told by the
+path of its field, that is in none of them. Prints a table, and a line for each difference.
 """
 from __future__ import annotations
 
@@ -32,10 +33,10 @@ DEEPEST = 4
 class Text:
     """A random rule, most of which have a certificate: alternatives and lists begin with their own bits."""
 
-    def __init__(self, source: random.Random) -> None:
+    def __init__(self, source: random.Random, parts: int) -> None:
         self.source = source
         self.labels = 0
-        self.left = source.choice((4, 8, 12, 20))
+        self.left = parts or source.choice((4, 8, 12, 20))
 
     def rule(self) -> str:
         return f"<M> ::= {self.parts(0)} <spare padding> ;\n"
@@ -217,13 +218,13 @@ def covered(programs: Programs, files: list[str], chance: int, seed: int, differ
           f"in {time.monotonic() - begun:.0f} seconds.")
 
 
-def random_files(folder: str, count: int, seed: int, programs: Programs) -> list[str]:
-    """Writes as many descriptions that have a certificate."""
+def random_files(folder: str, count: int, parts: int, seed: int, programs: Programs) -> list[str]:
+    """Writes as many descriptions that have a certificate, of so many parts, or of few where that is 0."""
     source = random.Random(seed)
     files: list[str] = []
     while len(files) < count:
         path = f"{folder}/{len(files):06d}.csn1"
-        Path(path).write_text(Text(source).rule())
+        Path(path).write_text(Text(source, parts).rule())
         if programs.certifies(path, "M", "received"):
             files.append(path)
     return files
@@ -235,6 +236,7 @@ def main() -> int:
     parser.add_argument("--companion", metavar="PATH", default=str(ROOT / "crates/csn_explain/out/csn_explain"))
     parser.add_argument("--blocks", type=int, default=100_000)
     parser.add_argument("--descriptions", type=int, default=2_000)
+    parser.add_argument("--parts", type=int, default=0)
     parser.add_argument("--chance", type=int, default=20_000)
     parser.add_argument("--seed", type=int, default=1)
     parser.add_argument("folder", nargs="?")
@@ -245,9 +247,10 @@ def main() -> int:
         if options.folder:
             files = [str(path) for path in sorted(Path(options.folder).glob("*.csn1"))]
         else:
-            files = random_files(folder, options.descriptions, options.seed, programs)
+            files = random_files(folder, options.descriptions, options.parts, options.seed, programs)
         answers(programs, options.blocks, options.seed, files, differences)
-        covered(programs, files, options.chance, options.seed, differences)
+        if options.chance:
+            covered(programs, files, options.chance, options.seed, differences)
     print(f"{differences.count:,} differences.")
     return 1 if differences.count else 0
 
