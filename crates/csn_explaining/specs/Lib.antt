@@ -1,4 +1,5 @@
 pub mod LeafLine
+pub mod Misfits
 pub mod Texts
 pub mod Wanted
 pub mod Ways

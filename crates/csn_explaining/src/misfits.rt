@@ -1,7 +1,9 @@
 //! Where a tree does not fit, in words.
 
-ghost use Rattle.std.specs.Prelude.{◌≡◌, ◌++◌, List, ℕ, codes, OnOk};
-ghost use Rattle.csn_explaining.specs.Texts.{HasGrown, named_way};
+ghost use Rattle.std.specs.Prelude.{◌≡◌, ◌++◌, ℕ, codes, slice_get, OnOk};
+ghost use Rattle.csn_desc.specs.TreeV.{TreeV};
+ghost use Rattle.csn_explaining.specs.Misfits.{counts_text, kinds_text, why_text};
+ghost use Rattle.csn_explaining.specs.Texts.{counted_text, named_way};
 ghost use Rattle.csn_explaining.specs.Wanted.{tree_text};
 
 use crate::nodes::{label_at, node_at};
@@ -136,51 +138,45 @@ fn push_tree(out: &mut Vec<u8>, tree: &Tree) -> Result<(), AllocError>
 
 /// Writes how many of something were wanted, and how many were found.
 fn push_counts(out: &mut Vec<u8>, wanted: u32, found: u32, noun: &[u8]) -> Result<(), AllocError>
-    ensures { OnOk result (HasGrown out.old.items out.new.items) }
+    ensures { OnOk result (out.new.items ≡ out.old.items ++ counts_text wanted found noun.now) }
 {
     push_counted(out, wanted, noun)?;
     out.extend_from_slice(b" wanted, ")?;
     push_counted(out, found, noun)?;
-    Ok(out.extend_from_slice(b" found")?)
+    out.extend_from_slice(b" found")
 }
 
 /// Writes which node was wanted, and which tree was found.
 fn push_kinds(out: &mut Vec<u8>, plan: &Plan, at: At<'_>) -> Result<(), AllocError>
-    ensures { OnOk result (HasGrown out.old.items out.new.items) }
+    ensures { OnOk result (out.new.items ≡ out.old.items ++ kinds_text (slice_get plan.now.nodes at.entry.node) at.entry.tree.now) }
 {
-    push_node_at(out, plan, behind_windows(plan, at).node)?;
+    push_node_at(out, plan, at.node)?;
     out.extend_from_slice(b" wanted, ")?;
     push_tree(out, at.tree)?;
-    Ok(out.extend_from_slice(b" found")?)
+    out.extend_from_slice(b" found")
 }
 
 /// Writes how many bits were wanted in a window, and how many were found.
 fn push_window_counts(out: &mut Vec<u8>, wanted: u32, found: u32) -> Result<(), AllocError>
-    ensures { OnOk result (HasGrown out.old.items out.new.items) }
+    ensures { OnOk result (out.new.items ≡ out.old.items ++ (counts_text wanted found (codes "bit") ++ codes " in the window")) }
 {
     push_counts(out, wanted, found, b"bit")?;
-    Ok(out.extend_from_slice(b" in the window")?)
-}
-
-/// Writes that the spare bits are others than a sender writes.
-fn push_spare(out: &mut Vec<u8>) -> Result<(), AllocError>
-    ensures { OnOk result (HasGrown out.old.items out.new.items) }
-{
-    Ok(out.extend_from_slice(b"the spare bits of a sender wanted, others found")?)
+    out.extend_from_slice(b" in the window")
 }
 
 /// Writes that there are more bits than a block has.
 fn push_most(out: &mut Vec<u8>) -> Result<(), AllocError>
-    ensures { OnOk result (HasGrown out.old.items out.new.items) }
+    ensures { OnOk result (out.new.items ≡ out.old.items
+        ++ (codes "at most " ++ (counted_text 524288 (codes "bit") ++ codes " wanted, more found"))) }
 {
     out.extend_from_slice(b"at most ")?;
     push_counted(out, MOST_BITS, b"bit")?;
-    Ok(out.extend_from_slice(b" wanted, more found")?)
+    out.extend_from_slice(b" wanted, more found")
 }
 
 /// Writes what was wanted, and what was found.
 fn push_why(out: &mut Vec<u8>, plan: &Plan, at: At<'_>, why: MisfitWhy) -> Result<(), AllocError>
-    ensures { OnOk result (HasGrown out.old.items out.new.items) }
+    ensures { OnOk result (out.new.items ≡ out.old.items ++ why_text (slice_get plan.now.nodes at.entry.node) at.entry.tree.now why) }
 {
     match why {
         MisfitWhy::WrongKind => push_kinds(out, plan, at),
@@ -189,7 +185,9 @@ fn push_why(out: &mut Vec<u8>, plan: &Plan, at: At<'_>, why: MisfitWhy) -> Resul
         MisfitWhy::WrongCount { wanted, found } => push_counts(out, wanted, found, b"tree"),
         MisfitWhy::WrongWidth { wanted, found } => push_counts(out, wanted, found, b"bit"),
         MisfitWhy::WindowLength { wanted, found } => push_window_counts(out, wanted, found),
-        MisfitWhy::WrongSpare => push_spare(out),
+        MisfitWhy::WrongSpare => {
+            out.extend_from_slice(b"the spare bits of a sender wanted, others found")
+        }
         MisfitWhy::TooManyBits => push_most(out),
     }
 }
@@ -214,10 +212,10 @@ pub fn push_misfit(
     tree: &Tree,
     misfit: &Misfit,
 ) -> Result<(), AllocError>
-    ensures { OnOk result ((why : List ℕ) × (out.new.items ≡ out.old.items
-        ++ (codes "no " ++ (named_way path.new.text ++ (codes ": " ++ why))))) }
+    ensures { OnOk result ((node : ℕ) × (below : TreeV) × (out.new.items ≡ out.old.items
+        ++ (codes "no " ++ (named_way path.new.text ++ (codes ": " ++ why_text (slice_get plan.now.nodes node) below misfit.now.why))))) }
 {
-    let at = go_to(path, plan, tree, &misfit.path)?;
+    let at = behind_windows(plan, go_to(path, plan, tree, &misfit.path)?);
     out.extend_from_slice(b"no ")?;
     push_name(out, path)?;
     out.extend_from_slice(b": ")?;
