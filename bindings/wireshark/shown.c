@@ -16,11 +16,10 @@ typedef struct {
     step_kind kind;
     const rule_node *node; /* of a label */
     guint32 number;        /* of a turn or an alternative */
-    gboolean is_told;      /* of an alternative, that a leaf was shown behind it */
-    gboolean is_made;      /* of a label or a turn, that a leaf is in it */
-    proto_item *item;      /* its item then, where it has one */
-    proto_tree *tree;      /* the tree of its parts then */
-    int first;             /* its first octet */
+    gboolean is_told;      /* of an alternative, that an item tells it */
+    proto_item *item;      /* once a leaf is in it: its item, where it has one */
+    proto_tree *tree;      /* then: the tree of its parts */
+    int first;             /* then: its first octet */
 } step;
 
 /* A block that is shown. */
@@ -33,6 +32,8 @@ typedef struct {
     gboolean is_drawn;      /* the tree is looked at; else only what is asked for gets an item, and none a text */
     step path[MOST_PATH];
     int length;             /* of the path */
+    int made;               /* how much of it leads to the part round the last leaf */
+    int told;               /* how much of it has a leaf behind it */
     int begun[MOST_PATH];   /* how long it was before each open node */
     int depth;              /* of open nodes */
     int till;               /* how many octets there are up to the end of the last leaf */
@@ -93,7 +94,7 @@ static void add_path(text *to, const shown *it)
 /* The alternatives that were not told yet. */
 static void add_alternatives(text *to, const shown *it)
 {
-    for (int at = 0; at < it->length; at++) {
+    for (int at = it->told; at < it->length; at++) {
         if (it->path[at].kind == ALTERNATIVE && !it->path[at].is_told) {
             text_add(to, ", alternative ");
             text_add_number(to, it->path[at].number);
@@ -191,17 +192,12 @@ static proto_item *make_item(shown *it, int at, proto_tree *around, int first)
 /* The tree of the part round a leaf, to which this much of the path leads. */
 static proto_tree *part_of(shown *it, int length, int first)
 {
-    proto_tree *around = it->tree;
-    for (int at = 0; at < length; at++) {
-        step *one = &it->path[at];
-        if (one->kind == ALTERNATIVE)
-            continue;
-        if (!one->is_made) {
-            one->is_made = TRUE;
-            one->item = make_item(it, at, around, first);
-            one->tree = one->item != NULL ? proto_item_add_subtree(one->item, nambroit_tree) : around;
-            one->first = first;
-        }
+    proto_tree *around = it->made > 0 ? it->path[it->made - 1].tree : it->tree;
+    for (; it->made < length; it->made++) {
+        step *one = &it->path[it->made];
+        one->first = first;
+        one->item = one->kind != ALTERNATIVE ? make_item(it, it->made, around, first) : NULL;
+        one->tree = one->item != NULL ? proto_item_add_subtree(one->item, nambroit_tree) : around;
         around = one->tree;
     }
     return around;
@@ -235,8 +231,7 @@ static void show_leaf(shown *it, const csn_event *leaf)
         add_value(&line, it, leaf, label);
         add_alternatives(&line, it);
     }
-    for (int at = 0; at < it->length; at++)
-        it->path[at].is_told = TRUE;
+    it->told = it->length;
 }
 
 /* ---- events */
@@ -264,6 +259,8 @@ static void go_back(shown *it, int length)
         if (one->item != NULL)
             proto_item_set_len(one->item, octets_from(it, one->first));
     }
+    it->made = MIN(it->made, length);
+    it->told = MIN(it->told, length);
 }
 
 static void show_event(shown *it, const csn_event *event)
@@ -313,7 +310,7 @@ static void begin(shown *it, const rule *by, span block, wmem_allocator_t *pool,
     it->tree = tree;
     it->pool = pool;
     it->is_drawn = PTREE_DATA(tree)->visible;
-    it->length = it->depth = it->till = 0;
+    it->length = it->made = it->told = it->depth = it->till = 0;
 }
 
 /* The status of a block, all of whose events are kept then. */
