@@ -81,6 +81,7 @@ impl<'a, W: LeafWriter> Along<'a, W> {
     }
 
     /// Goes to a leaf, and out of it.
+    #[inline(always)]
     fn tell(&mut self, leaf: Leaf) -> Result<(), AllocError> {
         // a part adds nothing to the way
         if leaf.role == Role::Part {
@@ -105,6 +106,7 @@ impl<'a, W: LeafWriter> Along<'a, W> {
     }
 
     /// Follows an event.
+    #[inline(always)]
     fn follow(&mut self, event: Event) -> Result<(), AllocError> {
         match event {
             Event::Begin { node, role, .. } => self.path.enter(role, label_at(self.plan, node)),
@@ -122,6 +124,8 @@ impl<'a, W: LeafWriter> Events for Along<'a, W> {
 
     ghost tells = { λ _ _ _. ⊤ };
 
+    // an event that stands in memory is read in other pieces than it is written in, for which the processor waits
+    #[inline(always)]
     fn event(&mut self, event: Event) {
         if !self.is_short {
             self.is_short = self.follow(event).is_err();

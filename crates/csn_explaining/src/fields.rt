@@ -15,16 +15,17 @@ pub struct FieldLines {
     text: Vec<u8>,
 }
 
-/// The word for a kind of leaf, between tabs.
-fn kind_cell(kind: LeafKind) -> &'static [u8]
-    ensures { result.now ≡ 9 ∷ (kind_text kind ++ 9 ∷ []) }
+/// Writes the word for a kind of leaf, between tabs.
+#[inline(always)]
+fn push_kind(out: &mut Vec<u8>, kind: LeafKind) -> Result<(), AllocError>
+    ensures { OnOk result (out.new.items ≡ out.old.items ++ 9 ∷ (kind_text kind ++ 9 ∷ [])) }
 {
     match kind {
-        LeafKind::Literal => b"\tliteral\t",
-        LeafKind::Spare => b"\tspare\t",
-        LeafKind::Field => b"\tfield\t",
-        LeafKind::Rest => b"\trest\t",
-        LeafKind::Padding => b"\tpadding\t",
+        LeafKind::Literal => out.extend_from_slice(b"\tliteral\t"),
+        LeafKind::Spare => out.extend_from_slice(b"\tspare\t"),
+        LeafKind::Field => out.extend_from_slice(b"\tfield\t"),
+        LeafKind::Rest => out.extend_from_slice(b"\trest\t"),
+        LeafKind::Padding => out.extend_from_slice(b"\tpadding\t"),
     }
 }
 
@@ -47,7 +48,7 @@ fn push_leaf(out: &mut Vec<u8>, standing: Standing<'_>) -> Result<(), AllocError
     push_count(out, leaf.place)?;
     out.push(b'\t')?;
     push_count(out, leaf.bits)?;
-    out.extend_from_slice(kind_cell(leaf.kind))?;
+    push_kind(out, leaf.kind)?;
     push_value(out, leaf, standing.block)?;
     out.push(b'\t')?;
     out.extend_from_slice(standing.path)?;

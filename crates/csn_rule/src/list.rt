@@ -1,6 +1,9 @@
+ghost use Rattle.std.specs.Prelude.{◌≡◌, ◌<◌, OnOk, vec_len, vec_capacity};
+
 use crate::buffer::copy_into;
 use crate::event::FlatEvent;
 use csn_fields::{Event, Events};
+use std::alloc::AllocError;
 use std::marker::Model;
 
 /// How many events there is room for from the first block on, where there is memory.
@@ -55,7 +58,8 @@ impl EventList {
         self.events
     }
 
-    /// One event more, while there is memory.
+    /// One event more, while there is memory. Only the memory is handed on where it is full, and not the event, which so goes
+    /// from registers to its place.
     #[inline(always)]
     fn add(&mut self, event: FlatEvent)
         ensures { AddsEvent event self.old self.new }
@@ -63,22 +67,33 @@ impl EventList {
         if self.short {
             return;
         }
-        if self.events.len() < self.events.capacity() {
-            self.events.push_reserved(event);
-        } else {
-            self.grow(event);
+        match room_for_one(&mut self.events) {
+            Ok(()) => self.events.push_reserved(event),
+            Err(AllocError) => self.short = true,
         }
     }
+}
 
-    /// The same where the memory is full. It stands apart, so that the events that have room are told in fewer steps.
-    #[cold]
-    #[inline(never)]
-    fn grow(&mut self, event: FlatEvent)
-        requires { self.old.short ≡ false }
-        ensures { AddsEvent event self.old self.new }
-    {
-        self.short = self.events.push(event).is_err();
+/// Room for one event more.
+#[inline(always)]
+fn room_for_one(events: &mut Vec<FlatEvent>) -> Result<(), AllocError>
+    ensures room { OnOk result (vec_len events.new < vec_capacity events.new) }
+    ensures items { events.new.items ≡ events.old.items }
+{
+    if events.len() < events.capacity() {
+        return Ok(());
     }
+    grow(events)
+}
+
+/// The same where the memory is full. It stands apart, so that events that have room are told in fewer steps.
+#[cold]
+#[inline(never)]
+fn grow(events: &mut Vec<FlatEvent>) -> Result<(), AllocError>
+    ensures room { OnOk result (vec_len events.new < vec_capacity events.new) }
+    ensures items { events.new.items ≡ events.old.items }
+{
+    events.reserve(1)
 }
 
 impl Events for EventList {
