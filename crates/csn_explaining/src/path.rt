@@ -71,6 +71,7 @@ impl PathText {
     }
 
     /// Goes into a node, which is this of the node round it, and has a label where it is a labelled part.
+    #[inline(always)]
     pub fn enter(&mut self, role: Role, label: Option<&[u8]>) -> Result<(), AllocError>
         ensures { OnOk result (self.new ≡ entered role (option_copied label.entry) self.old) }
     {
@@ -78,10 +79,9 @@ impl PathText {
             text: self.text.len(),
             chosen: self.chosen.len(),
         })?;
-        self.push_role(role)?;
-        match label {
-            Some(label) => self.push_label(label),
-            None => Ok(()),
+        match (role, label) {
+            (Role::Part, None) => Ok(()),
+            _ => self.push_step(role, label),
         }
     }
 
@@ -100,6 +100,20 @@ impl PathText {
         ensures { self.new ≡ record self.old { chosen = [] } }
     {
         self.chosen.clear();
+    }
+
+    // Writes what a node is of the node round it, and its label, where it has one.
+    fn push_step(&mut self, role: Role, label: Option<&[u8]>) -> Result<(), AllocError>
+        ensures { OnOk result (self.new ≡ record self.old {
+          text = with_label (self.old.text ++ role_text role) (option_copied label.entry);
+          chosen = self.old.chosen ++ chosen_text role;
+        }) }
+    {
+        self.push_role(role)?;
+        match label {
+            Some(label) => self.push_label(label),
+            None => Ok(()),
+        }
     }
 
     // Writes what a node is of the node round it.

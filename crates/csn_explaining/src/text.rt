@@ -83,6 +83,7 @@ fn push_many(out: &mut Vec<u8>, number: u64) -> Result<(), AllocError>
 }
 
 /// Writes a number of 32 bits in decimal.
+#[inline(always)]
 pub fn push_count(out: &mut Vec<u8>, count: u32) -> Result<(), AllocError>
     ensures ok { OnOk result (out.new.items ≡ out.old.items ++ decimal count) }
     ensures err { OnErr result (out.new.items ≡ out.old.items) }
