@@ -7,7 +7,8 @@ The paths are crates/csn_cli/out/csn_cli and crates/csn_explain/out/csn_explain 
 catalogue, and of random descriptions where FOLDER has a gen.py that makes them, `csn_explain fields` is compared with
 `csn_cli json`: the leaves lie one behind another, and are the whole block; their values are its bits; what is no literal
 has the values, labels and alternatives of the tree; refusals have the program's place, and their leaves end before it.
-With --speed it prints how many fields a second `fields` writes, and its processor time in those of `csn_cli show`.
+With --speed it prints how many fields a second `fields` writes, and its processor time in those of `csn_cli show`: the least
+of seven runs of each, in turn, whose output is dropped.
 """
 from __future__ import annotations
 
@@ -27,6 +28,7 @@ RULES = {"uplink": "Uplink Control Block", "downlink": "Downlink Control Block",
          "si3": "SI 3 Rest Octets", "si4": "SI 4 Rest Octets", "si13": "SI 13 Rest Octets", "ia": "IA Rest Octets"}
 ROUNDS = 24
 SPEED_LINES = 200_000
+SPEED_RUNS = 7
 
 
 @dataclass
@@ -207,16 +209,18 @@ def made_compared(options: argparse.Namespace, folder: str, source: random.Rando
     return wrong
 
 
-def used(words: list[str], given: str, to: str) -> float:
-    """The least processor time of three runs."""
-    best = None
-    for _ in range(3):
-        with open(given, "rb") as source, open(to, "wb") as target:
-            process = subprocess.Popen(words, stdin=source, stdout=target)
-            _, _, usage = os.wait4(process.pid, 0)
-        taken = usage.ru_utime + usage.ru_stime
-        best = taken if best is None else min(best, taken)
-    return best
+def taken(words: list[str], given: str) -> float:
+    """The processor time of a run whose output is dropped."""
+    with open(given, "rb") as source:
+        process = subprocess.Popen(words, stdin=source, stdout=subprocess.DEVNULL)
+        _, _, usage = os.wait4(process.pid, 0)
+    return usage.ru_utime + usage.ru_stime
+
+
+def least(first: list[str], second: list[str], given: str) -> tuple[float, float]:
+    """The least processor times of two commands, which run in turn."""
+    both = [(taken(first, given), taken(second, given)) for _ in range(SPEED_RUNS)]
+    return min(one for one, _ in both), min(other for _, other in both)
 
 
 def speed(options: argparse.Namespace, folder: str) -> None:
@@ -230,11 +234,12 @@ def speed(options: argparse.Namespace, folder: str) -> None:
         whole = [line for line, answer in zip(lines, shown) if answer.startswith("ok")]
         with open(f"{folder}/lines", "w", encoding="ascii") as given:
             given.writelines(source.choice(whole) + "\n" for _ in range(SPEED_LINES))
-        fields = used([options.companion, "fields", file, name, "received"], f"{folder}/lines", f"{folder}/fields")
-        with open(f"{folder}/fields", "rb") as written:
-            count = sum(line.count(b"\t") == 4 for line in written)
-        show = used([options.bin, "show", file, name, "received"], f"{folder}/lines", f"{folder}/shown")
-        print(f"| {word} | {count} | {count / fields:,.0f} | {fields / show:.2f} |")
+        asked = [options.companion, "fields", file, name, "received"], [options.bin, "show", file, name, "received"]
+        with open(f"{folder}/lines", "rb") as given:
+            written = subprocess.run(asked[0], stdin=given, stdout=subprocess.PIPE, check=False).stdout
+        count = sum(line.count(b"\t") == 4 for line in written.split(b"\n"))
+        fields, show = least(*asked, f"{folder}/lines")
+        print(f"| {word} | {count} | {count / fields:,.0f} | {fields / show:.2f} |", flush=True)
 
 
 def main() -> int:
