@@ -21,6 +21,7 @@ import subprocess
 import sys
 import tempfile
 import time
+from dataclasses import dataclass
 from pathlib import Path
 
 ROOT = Path(__file__).resolve().parent.parent
@@ -86,25 +87,40 @@ def measure_answers(program: str, lines: list[str], folder: str, times: int) -> 
           f" {len(lines) / used:,.0f} frames |\n")
 
 
+@dataclass
+class Shower:
+    """tshark, alone or with a plugin, as it is asked to show frames."""
+
+    name: str
+    words: list[str]
+    variables: dict[str, str]
+    many: int    # frames that it shows
+
+    def microseconds(self, captures: dict[int, str], processors: set[int], least: dict[int, float]) -> float:
+        """Those of the processor for a frame, by the least times of this run and of those before."""
+        for many in (1, self.many):
+            words = [*self.words, "-r", captures[many]]
+            used = taken(words, os.devnull, os.devnull, processors, **self.variables)[1]
+            least[many] = min(used, least.get(many, used))
+        return (least[self.many] - least[1]) / (self.many - 1) * 1e6
+
+
 def measure_plugins(tried: Tried, lines: list[str], times: int) -> None:
-    """What a plugin adds to tshark for a block, without what it takes to start both."""
+    """What a plugin adds to tshark for a block, without what it takes to start both. The runs take turns."""
     folder, processors = str(tried.folder), {min(os.sched_getaffinity(0))}
     captures = {many: capture_of(lines[:many], folder, f"frames-{many}") for many in {1, *FRAMES.values()}}
     plugins = sorted(tsharks_of(tried), key=lambda tshark: tshark.name)
-
-    def microseconds(name: str, words: list[str], home: str, asked: list[str], program: str) -> float:
-        variables = {"HOME": home, "NAMBROIT_PROGRAM": program}
-        least = [min(taken([*words, "-r", captures[many], *asked], os.devnull, os.devnull, processors, **variables)[1]
-                     for _ in range(times)) for many in (1, FRAMES[name])]
-        return (least[1] - least[0]) / (FRAMES[name] - 1) * 1e6
-
     print("| tshark is asked for | Alone |" + "".join(f" {tshark.name} adds |" for tshark in plugins))
     print("|---|---|" + "---|" * len(plugins))
     for what, (without, with_plugin) in ASKED.items():
-        alone = microseconds("", ["tshark"], folder, without, "")
-        added = [microseconds(tshark.name, tshark.words, str(tshark.folder), with_plugin, tshark.companion) - alone
-                 for tshark in plugins]
-        print(f"| {what} | {alone:.1f} |" + "".join(f" {one:.1f} |" for one in added), flush=True)
+        showers = [Shower("", ["tshark", *without], {"HOME": folder}, FRAMES[""])]
+        showers += [Shower(tshark.name, [*tshark.words, *with_plugin],
+                           {"HOME": str(tshark.folder), "NAMBROIT_PROGRAM": tshark.companion}, FRAMES[tshark.name])
+                    for tshark in plugins]
+        least: list[dict[int, float]] = [{} for _ in showers]
+        for _ in range(times):
+            alone, *added = [one.microseconds(captures, processors, known) for one, known in zip(showers, least)]
+        print(f"| {what} | {alone:.1f} |" + "".join(f" {one - alone:.1f} |" for one in added), flush=True)
     print()
 
 
