@@ -39,7 +39,7 @@ impl Machine<'_> {
         source.none_behind_end();
         let node = self.plan.node(i, steps);
         track.step(Move::Enter(i), node);
-        let values = self.values.len() as u8;
+        let values = self.values.len() as u32;
         match node {
             Node::Lits(_) => Next::Turn(self.read(i, Leaf::Lits { at: 0 }, node, source, track)),
             Node::Spare(_) => Next::Turn(self.read(i, Leaf::Spare, node, source, track)),

@@ -1,6 +1,7 @@
 use crate::leaf::Leaf;
 
 /// A node and what is still to come of it.
+// all but nodes has 32 bits: what is stored in pieces and loaded as one word makes the processor wait
 #[derive(Clone, Copy)]
 pub(crate) enum Frame {
     /// All of it: it begins next.
@@ -17,14 +18,14 @@ pub(crate) enum Frame {
     /// The parts of a sequence from the place `at` on. It sees so many values.
     Seq {
         node: u16,
-        at: u16,
-        values: u8,
+        at: u32,
+        values: u32,
     },
     /// The first few parts of a truncation from the place `at` on. It sees so many values.
     Trunc {
         node: u16,
-        at: u16,
-        values: u8,
+        at: u32,
+        values: u32,
     },
     /// One of the alternatives of a choice.
     Open {

@@ -11,7 +11,7 @@ ghost use Rattle.csn_judge.specs.Known.{Known};
 ghost use Rattle.csn_judge.specs.Turns.{IsPassed, state_of, state_then, state_with, turn_in, StandsSomewhere, Turns};
 
 use crate::frame::Frame;
-use crate::machine::Machine;
+use crate::machine::{Machine, part_at};
 use crate::source::Source;
 use crate::track::Track;
 use crate::turn::{Next, Turn};
@@ -57,8 +57,8 @@ impl Machine<'_> {
     pub fn seq<T: Track, L: Ledger>(
         &mut self,
         i: u16,
-        mut at: u16,
-        values: u8,
+        mut at: u32,
+        values: u32,
         source: &mut Source<'_>,
         track: &mut T,
         steps: &mut Steps<L>,
@@ -75,8 +75,8 @@ impl Machine<'_> {
         let Node::Seq(parts) = node else {
             unreachable!();
         };
-        while at < parts.len() {
-            let part = parts.get(at);
+        while at < parts.len() as u32 {
+            let part = part_at(parts, at);
             at += 1;
             self.pace.begin(part);
             if !self.read_whole(part, source, track) {

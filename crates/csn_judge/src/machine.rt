@@ -1,4 +1,4 @@
-ghost use Rattle.std.specs.Prelude.{◌≡◌, ◌<◌, false, [], ◌∷◌, length, reverse};
+ghost use Rattle.std.specs.Prelude.{◌≡◌, ◌<◌, false, [], ◌∷◌, length, reverse, slice_get, Some};
 ghost use Rattle.csn_judge.specs.declared.frame.Frame.TheVariants as frame;
 ghost use Rattle.csn_judge.specs.Turns.{begun_by, over};
 
@@ -6,7 +6,7 @@ use crate::frame::Frame;
 use crate::pace::Pace;
 use arrayvec::ArrayVec;
 use csn_certify::{MOST_NUMBERS, Number, Plan};
-use csn_desc::MOST_DEPTH;
+use csn_desc::{MOST_DEPTH, Parts};
 
 /// Goes through the nodes of a description along the bits of a block, one frame's turn after another.
 #[derive(Drop)]
@@ -75,4 +75,15 @@ pub(crate) fn put(frames: &mut ArrayVec<Frame, MOST_DEPTH>, behind: Option<Frame
     if let Some(frame) = behind {
         frames.push(frame);
     }
+}
+
+/// The part at a place of some parts.
+#[inline(always)]
+pub(crate) fn part_at(parts: &Parts, at: u32) -> u16
+    requires { at < length parts.now }
+    ensures { slice_get parts.now at ≡ Some result }
+{
+    // a u16 holds how many they are, and so a place of them
+    let _count = parts.len();
+    parts.get(at as u16)
 }

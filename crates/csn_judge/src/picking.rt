@@ -12,7 +12,7 @@ ghost use Rattle.csn_judge.specs.Turns.{state_begun, state_of, state_then, state
 
 use crate::frame::Frame;
 use crate::leaf::Leaf;
-use crate::machine::Machine;
+use crate::machine::{Machine, part_at};
 use crate::source::Source;
 use crate::track::Track;
 use crate::turn::{Next, PartTurn, Turn};
@@ -260,8 +260,8 @@ impl Machine<'_> {
     pub fn trunc<T: Track, L: Ledger>(
         &mut self,
         i: u16,
-        at: u16,
-        values: u8,
+        at: u32,
+        values: u32,
         source: &mut Source<'_>,
         track: &mut T,
         steps: &mut Steps<L>,
@@ -279,7 +279,7 @@ impl Machine<'_> {
             unreachable!();
         };
         let ready = source.ready(1);
-        if ready == 0 && at < parts.len() && !source.is_closed() {
+        if ready == 0 && at < parts.len() as u32 && !source.is_closed() {
             self.frames.push(Frame::Trunc {
                 node: i,
                 at,
@@ -287,7 +287,7 @@ impl Machine<'_> {
             });
             return Next::Turn(Turn::Waits);
         }
-        if ready == 0 || at == parts.len() {
+        if ready == 0 || at == parts.len() as u32 {
             self.values.truncate(values as usize);
             track.step(Move::Leave, node);
             return Next::Turn(Turn::Moved);
@@ -297,7 +297,7 @@ impl Machine<'_> {
             at: at + 1,
             values,
         };
-        let part = parts.get(at);
+        let part = part_at(parts, at);
         self.begin(part, behind);
         Next::Begin { node: part }
     }

@@ -27,14 +27,14 @@ loop-at-init g c = (
 pub begin-requires : goal.begin-requires
 begin-requires g c =
     let part = part_begun c.args.self.now.plan.now g.T.Track.takes c.in-Seq.parts
-    (c.node-node.ensures.node ∙ ap (λ n. Some n) c.in-Seq.is) c.get-part.ensures c.requires.stands
+    (c.node-node.ensures.node ∙ ap (λ n. Some n) c.in-Seq.is) c.part_at-part.ensures c.requires.stands
     c.loop-at.invariant.1 refl in
     omega (arith, part.begins.within)
 
 pub read_whole-requires-clause-node : goal.read_whole-requires-clause-node
 read_whole-requires-clause-node g c =
     let part = part_begun c.args.self.now.plan.now g.T.Track.takes c.in-Seq.parts
-    (c.node-node.ensures.node ∙ ap (λ n. Some n) c.in-Seq.is) c.get-part.ensures c.requires.stands
+    (c.node-node.ensures.node ∙ ap (λ n. Some n) c.in-Seq.is) c.part_at-part.ensures c.requires.stands
     c.loop-at.invariant.1 c.begin.ensures in
     omega (arith, part.begins.is_node, ap (λ p. length p.now.nodes) c.loop-at.invariant.0)
 
@@ -46,7 +46,7 @@ read_whole-requires-clause-fits g c =
 pub push-requires : goal.push-requires
 push-requires g c =
     let part = part_begun c.args.self.now.plan.now g.T.Track.takes c.in-Seq.parts
-    (c.node-node.ensures.node ∙ ap (λ n. Some n) c.in-Seq.is) c.get-part.ensures c.requires.stands
+    (c.node-node.ensures.node ∙ ap (λ n. Some n) c.in-Seq.is) c.part_at-part.ensures c.requires.stands
     c.loop-at.invariant.1 c.begin.ensures in
     (lit< tt, omega (arith, part.begins.room, length-reverse c.loop-at.self.frames.items, ap (λ f. length f.items) c.read_whole.ensures.frames))
 
@@ -54,7 +54,7 @@ pub returns-then-not-read_whole-clause-turns : goal.returns-then-not-read_whole-
 returns-then-not-read_whole-clause-turns g c =
     let d : DescV = c.args.self.now.plan.now in
     let part = part_begun d g.T.Track.takes c.in-Seq.parts (c.node-node.ensures.node ∙ ap (λ n. Some n) c.in-Seq.is)
-    c.get-part.ensures c.requires.stands c.loop-at.invariant.1 c.begin.ensures in
+    c.part_at-part.ensures c.requires.stands c.loop-at.invariant.1 c.begin.ensures in
     let kept = c.read_whole.ensures.machine c.if-not-read_whole.true in
     let begun = going_since d g.T.Track.takes (c.read_whole.ensures.same c.if-not-read_whole.true) part.going in
     let first : StateV = state_with (frame.Seq c.args.i c.args.at c.args.values) c.args.self.now c.args.source.now in
@@ -64,7 +64,7 @@ returns-then-not-read_whole-clause-turns g c =
     λ stack done stands.
     let P : g.row.T.Denot → Type 0 = λ u. GoesOn d g.T.Track.takes first
     (record {
-      frames = frame.Begin c.get-part.result ∷ reverse c.push.new.self.items;
+      frames = frame.Begin c.part_at-part.result ∷ reverse c.push.new.self.items;
       values =
           c.read_whole.new.self.values.items;
       pace = c.read_whole.new.self.pace;
@@ -73,22 +73,22 @@ returns-then-not-read_whole-clause-turns g c =
     c.args.track.now u stack done in
     subst P (sym (c.read_whole.ensures.untold c.if-not-read_whole.true))
     (GoesOn-along d g.T.Track.takes c.args.track.now c.args.self.now.values.items c.args.self.now.pace
-    c.read_whole.new.source (ap (λ (l : List Frame). frame.Begin c.get-part.result ∷ l) frames)
+    c.read_whole.new.source (ap (λ (l : List Frame). frame.Begin c.part_at-part.result ∷ l) frames)
     (ap (λ m. m.values.items) kept) (ap (λ m. m.pace) kept) (begun.on stack done stands))
 
 pub returns-then-not-read_whole-clause-pays : goal.returns-then-not-read_whole-clause-pays
 returns-then-not-read_whole-clause-pays g c =
     let d : DescV = c.args.self.now.plan.now in
     let part = part_begun d g.T.Track.takes c.in-Seq.parts (c.node-node.ensures.node ∙ ap (λ n. Some n) c.in-Seq.is)
-    c.get-part.ensures c.requires.stands c.loop-at.invariant.1 c.begin.ensures in
+    c.part_at-part.ensures c.requires.stands c.loop-at.invariant.1 c.begin.ensures in
     let kept = c.read_whole.ensures.machine c.if-not-read_whole.true in
     let bits = length c.read_whole.new.source.bits in
     let N = length d.nodes in
     let frames = pushed c.read_whole.new.self.frames.items (frame.Seq c.args.i (c.loop-at.at + 1) c.args.values)
     c.push.ensures.items ∙ ap (λ f. frame.Seq c.args.i (c.loop-at.at + 1) c.args.values ∷ reverse f.items)
     c.read_whole.ensures.frames in
-    let behind : List Frame = frame.Begin c.get-part.result ∷ frame.Seq c.args.i (c.loop-at.at + 1) c.args.values ∷ reverse c.loop-at.self.frames.items in
-    let same = ap (λ (l : List Frame). credit_of N (frame.Begin c.get-part.result ∷ l)
+    let behind : List Frame = frame.Begin c.part_at-part.result ∷ frame.Seq c.args.i (c.loop-at.at + 1) c.args.values ∷ reverse c.loop-at.self.frames.items in
+    let same = ap (λ (l : List Frame). credit_of N (frame.Begin c.part_at-part.result ∷ l)
     c.read_whole.new.self.pace bits) frames ∙ ap (λ m. credit_of N behind m.pace bits) kept
     ∙ ap (λ (l : List ℕ). credit_of N behind c.begin.new.self (length l)) (c.read_whole.ensures.same c.if-not-read_whole.true).bits in
     (omega (arith, part.paid, same, c.node-node.ensures.step), omega (arith, part.paid, same))
@@ -98,7 +98,7 @@ loop-at-preserved g c =
     let d : DescV = c.args.self.now.plan.now in
     let same = ap (λ p. p.now) c.loop-at.invariant.0 in
     let part = part_begun d g.T.Track.takes c.in-Seq.parts (c.node-node.ensures.node ∙ ap (λ n. Some n) c.in-Seq.is)
-    c.get-part.ensures c.requires.stands c.loop-at.invariant.1 c.begin.ensures in
+    c.part_at-part.ensures c.requires.stands c.loop-at.invariant.1 c.begin.ensures in
     let behind : List Frame = frame.Seq c.args.i (c.loop-at.at + 1) c.args.values ∷ reverse c.loop-at.self.frames.items in
     let pays = c.read_whole.ensures.pays c.if-not-read_whole.false behind in
     let read = going_more d g.T.Track.takes (state_at behind c.read_whole.new.self c.read_whole.new.source) c.read_whole.new.track 0 same part.going

@@ -70,7 +70,7 @@ pub begin-requires-clause-few : goal.begin-requires-clause-few
 begin-requires-clause-few g c =
     let begins = component_begins c.args.self.now.plan.now g.T.Track.takes c.args.track.now
     c.args.self.now.values.items c.args.self.now.pace c.ready-ready.new.self c.in-Trunc.parts
-    (c.node-node.ensures.node ∙ ap (λ n. Some n) c.in-Trunc.is) c.get-part.ensures
+    (c.node-node.ensures.node ∙ ap (λ n. Some n) c.in-Trunc.is) c.part_at-part.ensures
     (omega (arith, c.ready-ready.ensures.count, c.if-ready-eq0-2.false))
     (omega (arith, c.ready-ready.ensures.count, c.if-ready-eq0-2.false)) c.requires.known
     (stands_on c.args.self.now.plan.now g.T.Track.takes c.args.track.now c.args.track.now
@@ -82,7 +82,7 @@ pub begin-requires-clause-room : goal.begin-requires-clause-room
 begin-requires-clause-room g c =
     let begins = component_begins c.args.self.now.plan.now g.T.Track.takes c.args.track.now
     c.args.self.now.values.items c.args.self.now.pace c.ready-ready.new.self c.in-Trunc.parts
-    (c.node-node.ensures.node ∙ ap (λ n. Some n) c.in-Trunc.is) c.get-part.ensures
+    (c.node-node.ensures.node ∙ ap (λ n. Some n) c.in-Trunc.is) c.part_at-part.ensures
     (omega (arith, c.ready-ready.ensures.count, c.if-ready-eq0-2.false))
     (omega (arith, c.ready-ready.ensures.count, c.if-ready-eq0-2.false)) c.requires.known
     (stands_on c.args.self.now.plan.now g.T.Track.takes c.args.track.now c.args.track.now
@@ -100,10 +100,10 @@ returns-clause-turns g c =
     goes_since d g.T.Track.takes c.args.track.now c.args.track.now (top ∷ reverse c.args.self.now.frames.items)
     c.args.self.now.values.items c.args.self.now.pace c.ready-ready.ensures.same _
     (GoesOn-along d g.T.Track.takes c.args.track.now c.args.self.now.values.items c.args.self.now.pace next
-    (ap (λ (l : List Frame). frame.Begin c.get-part.result ∷ l) c.begin.ensures.frames)
+    (ap (λ (l : List Frame). frame.Begin c.part_at-part.result ∷ l) c.begin.ensures.frames)
     (ap (λ v. v.items) c.begin.ensures.values) c.begin.ensures.pace
     (begins_component d g.T.Track.takes c.args.track.now c.args.self.now.values.items c.args.self.now.pace next c.in-Trunc.parts found.0 found.1
-    (c.node-node.ensures.node ∙ ap (λ n. Some n) c.in-Trunc.is) c.get-part.ensures found.2
+    (c.node-node.ensures.node ∙ ap (λ n. Some n) c.in-Trunc.is) c.part_at-part.ensures found.2
     (omega (arith, c.ready-ready.ensures.count, c.if-ready-eq0-2.false)) c.requires.known
     (stands_on d g.T.Track.takes c.args.track.now c.args.track.now (top ∷ reverse c.args.self.now.frames.items)
     c.args.self.now.values.items c.args.self.now.pace c.ready-ready.ensures.same stands)))
@@ -112,10 +112,10 @@ pub returns-clause-pays : goal.returns-clause-pays
 returns-clause-pays g c =
     let d : DescV = c.args.self.now.plan.now in
     let rises = component_rises d c.args.self.now.pace c.in-Trunc.parts (c.node-node.ensures.node ∙ ap (λ n. Some n)
-    c.in-Trunc.is) c.get-part.ensures c.requires.known c.requires.stands.shows c.requires.stands.stack_is in
+    c.in-Trunc.is) c.part_at-part.ensures c.requires.known c.requires.stands.shows c.requires.stands.stack_is in
     begun_pays_on c.args.steps.now 1 (frame.Trunc c.args.i c.args.at c.args.values) _
     (ap (λ (l : List ℕ). length l) c.ready-ready.ensures.same.bits)
-    (ap (λ (l : List Frame). frame.Begin c.get-part.result ∷ l) c.begin.ensures.frames)
+    (ap (λ (l : List Frame). frame.Begin c.part_at-part.result ∷ l) c.begin.ensures.frames)
     c.begin.ensures.pace c.node-node.ensures.step
     rises.is_node (inl rises.rises) (omega arith) (omega arith)
 
