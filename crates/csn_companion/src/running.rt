@@ -14,7 +14,7 @@ use crate::sampling::{make_blocks, push_vectors};
 use csn_bits::NoMemory;
 use csn_certify::Plan;
 use csn_explaining::{
-    BlockTeller, Drawing, FieldLines, LeafWriter, LineTeller, Table, TreeTeller, push_foot,
+    BlockTeller, Drawing, FieldLines, FieldPlan, LeafWriter, LineTeller, Table, TreeTeller, push_foot,
     push_head,
 };
 use csn_io::{Shelf, Sink, Source};
@@ -66,9 +66,10 @@ fn answer_blocks<W: LeafWriter + Drop, S: Source, K: Sink>(
     ensures blames { BlamesStreams result (S.steady input.old) (S.steady input.new) (S.faults input.old) (S.faults input.new)
         (K.steady out.old) (K.steady out.new) (K.faults out.old) (K.faults out.new) }
 {
-    let Ok(mut teller) = BlockTeller::<W>::new(alloc, plan) else {
+    let Ok(fields) = FieldPlan::new(alloc, plan) else {
         return Err(Fault::Memory);
     };
+    let mut teller = BlockTeller::<W>::new(alloc, &fields);
     answer_lines(alloc, &mut teller, input, out, lines)
 }
 

@@ -1,30 +1,21 @@
 //! The events of a block, told to a writer of its leaves.
 
-ghost use Rattle.std.specs.Prelude.{◌≡◌, true, false};
+ghost use Rattle.std.specs.Prelude.{◌≡◌, false};
 ghost use Rattle.csn_explaining.specs.Ways.{root_way};
 
 use crate::nodes::label_at;
 use crate::path::PathText;
-use crate::writer::{LeafWriter, Standing};
+use crate::writer::{LeafWriter, Standing, Stopped};
 use csn_bits::Bits;
 use csn_certify::Plan;
 use csn_fields::{Event, Events, Leaf, Role};
-use std::alloc::AllocError;
-
-/// What was told of a block that ended.
-#[derive(Drop)]
-pub(crate) struct Told<W> {
-    pub path: PathText,
-    pub writer: W,
-    /// Whether memory was refused.
-    pub is_short: bool,
-}
+use std::alloc::{AllocError, Global};
 
 /// Follows the way to each leaf of a block, and hands it to a writer, while there is memory.
 #[derive(Drop)]
-pub(crate) struct Along<'a, W> {
+pub struct Along<'a, W> {
     plan: &'a Plan,
-    block: &'a Bits,
+    block: Bits,
     path: PathText,
     writer: W,
     /// Whether memory was refused.
@@ -32,52 +23,76 @@ pub(crate) struct Along<'a, W> {
 }
 
 impl<'a, W: LeafWriter> Along<'a, W> {
-    /// The beginning of a block.
-    pub fn new(plan: &'a Plan, block: &'a Bits, mut path: PathText, writer: W) -> Along<'a, W>
+    /// No block so far. It takes no memory.
+    pub fn new(alloc: Global, plan: &'a Plan) -> Along<'a, W>
         ensures plan { result.plan ≡ plan.entry }
-        ensures block { result.block ≡ block.entry }
         ensures path { result.path ≡ root_way }
-        ensures writer { result.writer ≡ writer }
         ensures memory { result.is_short ≡ false }
     {
-        path.restart();
         Along {
             plan,
-            block,
-            path,
-            writer,
+            block: Bits::new(alloc),
+            path: PathText::new(alloc),
+            writer: W::new(alloc),
             is_short: false,
         }
     }
 
-    /// The beginning of the block of a line again.
-    pub fn restart(&mut self, line: &[u8])
+    /// Begins the answer to a line.
+    pub fn begin(&mut self, line: &[u8]) -> Result<(), AllocError>
         ensures path { self.new.path ≡ root_way }
-        ensures memory { self.old.is_short ≡ true → self.new.is_short ≡ true }
+        ensures block { self.new.block ≡ self.old.block }
     {
         self.path.restart();
-        if !self.is_short {
-            self.is_short = self.writer.begin(line).is_err();
-        }
+        self.is_short = false;
+        self.writer.begin(line)
     }
 
-    /// The block has ended.
-    pub fn finish(self) -> Told<W>
-        ensures path { result.path ≡ self.entry.path }
-        ensures writer { result.writer ≡ self.entry.writer }
-        ensures memory { result.is_short ≡ self.entry.is_short }
+    /// The block whose leaves are told next.
+    pub fn take(&mut self, block: Bits)
+        ensures block { self.new.block ≡ block }
+        ensures path { self.new.path ≡ self.old.path }
     {
-        let Along {
-            path,
-            writer,
-            is_short,
-            ..
-        } = self;
-        Told {
-            path,
-            writer,
-            is_short,
+        self.block = block;
+    }
+
+    /// The block.
+    pub fn block(&self) -> &Bits
+        ensures { result.now ≡ self.now.block }
+    {
+        &self.block
+    }
+
+    /// Ends a block that is whole.
+    pub fn end(&mut self) -> Result<(), AllocError> {
+        if self.is_short {
+            return Err(AllocError);
         }
+        self.writer.end()
+    }
+
+    /// Ends a block that was refused at a place, where that was wanted, in a node that is this of the one round it.
+    pub fn stop(&mut self, role: Role, place: u32, wanted: &[u8]) -> Result<(), AllocError> {
+        if self.is_short {
+            return Err(AllocError);
+        }
+        self.path.enter(role, None)?;
+        self.writer.stop(Stopped {
+            block: &self.block,
+            place,
+            path: self.path.text(),
+            wanted,
+        })
+    }
+
+    /// Ends a line that is no block, for which `answer` says why.
+    pub fn refuse(&mut self, answer: &[u8]) -> Result<(), AllocError> {
+        self.writer.refuse(answer)
+    }
+
+    /// What was written since the line began.
+    pub fn text(&self) -> &[u8] {
+        self.writer.text()
     }
 
     /// Goes to a leaf, and out of it.
@@ -97,7 +112,7 @@ impl<'a, W: LeafWriter> Along<'a, W> {
     fn write(&mut self, leaf: Leaf) -> Result<(), AllocError> {
         self.writer.leaf(Standing {
             leaf,
-            block: self.block,
+            block: &self.block,
             path: self.path.text(),
             chosen: self.path.chosen(),
         })?;

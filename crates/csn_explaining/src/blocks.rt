@@ -1,50 +1,42 @@
 //! Block lines, each answered by its leaves.
 
-ghost use Rattle.std.specs.Prelude.{◌≡◌, [], IfOk};
-ghost use Rattle.csn_explaining.specs.Ways.{root_way};
+ghost use Rattle.std.specs.Prelude.{◌≡◌};
 
-use crate::along::{Along, Told};
+use crate::along::Along;
 use crate::field_plan::FieldPlan;
 use crate::nodes::node_at;
-use crate::path::PathText;
 use crate::teller::{Answered, LineTeller};
 use crate::text::push_count;
 use crate::wanted::push_wanted;
-use crate::writer::{LeafWriter, Stopped};
+use crate::writer::LeafWriter;
 use csn_bits::{Bits, BitsFault};
 use csn_certify::Plan;
 use csn_desc::Node;
-use csn_fields::{Ended, Refusal, Role};
+use csn_fields::{Ended, Refusal, Role, StringReader};
 use csn_judge::Judged;
 use std::alloc::{AllocError, Global};
+use std::marker::Model;
 use std::mem;
 
-/// Answers block lines by a plan, each as a writer of leaves writes it.
+/// Answers block lines by a plan, each as a writer of leaves writes it. A contract sees the description.
 #[derive(Drop)]
 pub struct BlockTeller<'a, W> {
-    plan: FieldPlan<'a>,
-    path: PathText,
-    writer: W,
+    plan: &'a FieldPlan<'a>,
+    reader: StringReader<'a, Along<'a, W>>,
+    /// Those of the block.
+    octets: Vec<u8>,
     wanted: Vec<u8>,
 }
 
-/// Tells a writer the leaves of the block of a line, and gives how it ends. One that is no string is told again from its
-/// beginning on, as far as it can be followed.
-fn read_leaves<W: LeafWriter>(
-    plan: &FieldPlan<'_>,
-    line: &[u8],
-    block: &Bits,
-    path: PathText,
-    writer: W,
-) -> (Told<W>, Ended) {
-    let along = Along::new(plan.plan(), block, path, writer);
-    let (mut along, judged) = plan.tell_string(block, along);
-    if let Judged::Ok = judged {
-        return (along.finish(), Ended::Whole);
-    }
-    along.restart(line);
-    let (along, ended) = plan.tell(block, along);
-    (along.finish(), ended)
+impl<'a, W> Model for BlockTeller<'a, W> {
+    ghost use Rattle.csn_desc.specs.Nodes.{DescV};
+    ghost use Rattle.csn_fields.specs.Reading.{IsReady};
+
+    ghost Value = { DescV };
+
+    ghost view = { λ t. t.reader.judge.desc };
+
+    ghost invariant = { λ t. IsReady t.reader.judge t.reader.track.fields.places t.reader.track.alternatives.now };
 }
 
 /// Writes the answer to a line that is no block line.
@@ -84,81 +76,66 @@ fn last_role(plan: &Plan, refusal: Refusal) -> Role {
 }
 
 impl<'a, W: LeafWriter + Drop> BlockTeller<'a, W> {
-    /// Answers by this plan.
-    pub fn new(alloc: Global, plan: &'a Plan) -> Result<BlockTeller<'a, W>, AllocError>
-        ensures plan { IfOk result (λ teller. teller.plan ≡ plan.now) }
-        ensures path { IfOk result (λ teller. teller.path ≡ root_way) }
-        ensures wanted { IfOk result (λ teller. teller.wanted.items ≡ []) }
+    /// Answers by this plan. It takes no memory.
+    pub fn new(alloc: Global, plan: &'a FieldPlan<'a>) -> BlockTeller<'a, W>
+        ensures { result ≡ plan.now }
     {
-        let Ok(plan) = FieldPlan::new(alloc, plan) else {
-            return Err(AllocError);
-        };
-        Ok(BlockTeller {
+        BlockTeller {
             plan,
-            path: PathText::new(alloc),
-            writer: W::new(alloc),
+            reader: plan.reader(Along::new(alloc, plan.plan())),
+            octets: Vec::new(alloc),
             wanted: Vec::new(alloc),
-        })
-    }
-
-    /// Tells the writer where a block was refused.
-    fn stop(&mut self, block: &Bits, refusal: Refusal) -> Result<(), AllocError> {
-        self.wanted.clear();
-        push_wanted(&mut self.wanted, self.plan.plan(), refusal)?;
-        self.path.enter(last_role(self.plan.plan(), refusal), None)?;
-        self.writer.stop(Stopped {
-            block,
-            place: refusal.place,
-            path: self.path.text(),
-            wanted: &self.wanted,
-        })
-    }
-
-    /// Puts back what was taken to tell a block.
-    fn put_back(&mut self, told: Told<W>) -> Result<(), AllocError> {
-        let Told {
-            path,
-            writer,
-            is_short,
-        } = told;
-        self.path = path;
-        self.writer = writer;
-        if is_short { Err(AllocError) } else { Ok(()) }
-    }
-
-    /// Tells the writer the leaves of a block, as far as it can be followed, and gives how it ends.
-    fn tell_leaves(
-        &mut self,
-        alloc: Global,
-        line: &[u8],
-        block: &Bits,
-    ) -> Result<Ended, AllocError> {
-        let path = mem::replace(&mut self.path, PathText::new(alloc));
-        let writer = mem::replace(&mut self.writer, W::new(alloc));
-        let (told, ended) = read_leaves(&self.plan, line, block, path, writer);
-        self.put_back(told)?;
-        Ok(ended)
+        }
     }
 
     /// Tells the writer the leaves of a block, and how it ends.
-    fn read(&mut self, alloc: Global, line: &[u8], block: &Bits) -> Result<Answered, AllocError> {
-        match self.tell_leaves(alloc, line, block)? {
-            Ended::Whole => {
-                self.writer.end()?;
+    fn read(&mut self, alloc: Global, line: &[u8], block: Bits) -> Result<Answered, AllocError> {
+        let bits = block.len();
+        self.octets.clear();
+        self.octets.extend_from_slice(block.octets())?;
+        self.reader.track.fields.events.take(block);
+        match self.reader.tell(&self.octets, bits) {
+            Judged::Ok => {
+                self.reader.track.fields.events.end()?;
                 Ok(Answered::Given)
             }
-            Ended::Refused(refusal) => {
-                self.stop(block, refusal)?;
-                Ok(Answered::Refused)
-            }
+            Judged::Refused { .. } => self.read_again(alloc, line),
         }
+    }
+
+    /// Tells the writer the leaves of a block that is no string, from its beginning on, and where it is refused.
+    fn read_again(&mut self, alloc: Global, line: &[u8]) -> Result<Answered, AllocError> {
+        let none = Along::new(alloc, self.plan.plan());
+        let mut along = mem::replace(&mut self.reader.track.fields.events, none);
+        along.begin(line)?;
+        let Ok(block) = along.block().copy(alloc) else {
+            return Err(AllocError);
+        };
+        let (along, ended) = self.plan.tell(&block, along);
+        self.reader.track.fields.events = along;
+        if let Ended::Refused(refusal) = ended {
+            self.stop(refusal)?;
+        }
+        Ok(Answered::Refused)
+    }
+
+    /// Tells the writer where a block was refused.
+    fn stop(&mut self, refusal: Refusal) -> Result<(), AllocError> {
+        self.wanted.clear();
+        push_wanted(&mut self.wanted, self.plan.plan(), refusal)?;
+        let role = last_role(self.plan.plan(), refusal);
+        self.reader
+            .track
+            .fields
+            .events
+            .stop(role, refusal.place, &self.wanted)
     }
 
     /// Tells the writer that a line is no block.
     fn refuse(&mut self, alloc: Global, fault: BitsFault) -> Result<Answered, AllocError> {
         let mut answer = Vec::new(alloc);
         push_fault(&mut answer, fault)?;
-        self.writer.refuse(&answer)?;
+        self.reader.track.fields.events.refuse(&answer)?;
         Ok(Answered::Refused)
     }
 }
@@ -170,12 +147,12 @@ impl<'a, W: LeafWriter + Drop> LineTeller for BlockTeller<'a, W> {
         line: &[u8],
         out: &mut Vec<u8>,
     ) -> Result<Answered, AllocError> {
-        self.writer.begin(line)?;
+        self.reader.track.fields.events.begin(line)?;
         let answered = match Bits::from_hex_line(alloc, line) {
-            Ok(block) => self.read(alloc, line, &block)?,
+            Ok(block) => self.read(alloc, line, block)?,
             Err(fault) => self.refuse(alloc, fault)?,
         };
-        out.extend_from_slice(self.writer.text())?;
+        out.extend_from_slice(self.reader.track.fields.events.text())?;
         Ok(answered)
     }
 }

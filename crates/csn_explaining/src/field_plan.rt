@@ -1,14 +1,11 @@
 //! A plan by which the fields of blocks are told.
 
 ghost use Rattle.std.specs.Prelude.{◌≡◌, [], IfOk};
-ghost use Rattle.csn_judge.specs.declared.verdict.Judged.TheVariants.{Ok};
-ghost use Rattle.csn_fields.specs.declared.refusal.Ended.TheVariants.{Whole};
-ghost use Rattle.csn_fields.specs.Reading.{EndsTold};
+ghost use Rattle.csn_fields.specs.Reading.{EndsTold, IsReady};
 
 use csn_bits::{Bits, NoMemory};
 use csn_certify::Plan;
-use csn_fields::{Alternatives, Ended, Events, tell_block, tell_string};
-use csn_judge::Judged;
+use csn_fields::{Alternatives, Ended, Events, StringReader, tell_block};
 use std::alloc::Global;
 use std::marker::Model;
 
@@ -46,18 +43,13 @@ impl<'a> FieldPlan<'a> {
         self.plan
     }
 
-    /// Tells the events of a block that is a string, and hands back what was told. Where it is none, nothing is known of
-    /// what was told.
-    pub fn tell_string<E: Events>(&self, block: &Bits, events: E) -> (E, Judged)
-        ensures { result.1 ≡ Ok → EndsTold E.tells self.now block.now [] events result.0 Whole }
+    /// A reader of blocks that are strings, which tells their events.
+    pub fn reader<E: Events>(&self, events: E) -> StringReader<'_, E>
+        ensures ready { IsReady result.judge result.track.fields.places result.track.alternatives.now }
+        ensures desc { result.judge.desc ≡ self.now }
+        ensures events { result.track.fields.events ≡ events }
     {
-        tell_string(
-            self.plan,
-            &self.alternatives,
-            block.octets(),
-            block.len(),
-            events,
-        )
+        StringReader::new(self.plan, &self.alternatives, events)
     }
 
     /// Tells the events of a block, and hands back what was told. For a string it takes about twice as long.

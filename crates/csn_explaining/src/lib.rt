@@ -18,6 +18,7 @@ mod wanted;
 mod writer;
 
 pub use blocks::BlockTeller;
+pub use field_plan::FieldPlan;
 pub use fields::FieldLines;
 pub use page::{Drawing, push_foot, push_head};
 pub use path::PathText;

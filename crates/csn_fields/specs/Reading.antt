@@ -7,7 +7,7 @@ use Rattle.csn_desc.specs.Formed.{IsDescription}
 use Rattle.csn_certify.specs.Plans.{HasOneTree}
 use Rattle.csn_judge.specs.Told.{Tells}
 use Rattle.csn_judge.specs.Remains.{IsBlock}
-use Rattle.csn_judge.specs.Judging.{opened}
+use Rattle.csn_judge.specs.Judging.{JudgeV, JudgesFor, opened}
 use Rattle.csn_judge.specs.declared.verdict.Judged.{Judged}
 use Rattle.csn_judge.specs.declared.verdict.Judged.TheVariants.{Ok, Refused as no_string}
 use Rattle.csn_judge.specs.Following.{IsNoString}
@@ -16,8 +16,9 @@ use Rattle.csn_fields.specs.declared.refusal.OpenNode.{OpenNode}
 use Rattle.csn_fields.specs.declared.refusal.Ended.{Ended}
 use Rattle.csn_fields.specs.declared.refusal.Ended.TheVariants.{Whole, Refused}
 use Rattle.csn_fields.specs.Numbers.{HasNumbers}
+use Rattle.csn_fields.specs.Alternatives.{AlternativesV, HasAlternatives}
 use Rattle.csn_fields.specs.Events.{Told, AreEvents, BeginEvents}
-use Rattle.csn_fields.specs.Places.{PlacesV, innermost}
+use Rattle.csn_fields.specs.Places.{PlacesV, innermost, nothing}
 use Rattle.csn_fields.specs.Telling.{ToldV, untold, Goes}
 use Rattle.csn_fields.specs.Follower.{FollowerV, FollowsFor}
 
@@ -78,3 +79,14 @@ ended_as (no_string place) within = Refused (record { place = place; within = wi
 abbrev pub left_in : ℕ → Option OpenNode → Option ℕ
 left_in place None = None
 left_in place (Some node) = option_map (λ bits. bits - (place - node.place)) node.bits
+
+-- a judge stands for no bits, and nothing is kept of a block, by a description of which these are the alternatives
+pub record IsReady (judge : JudgeV) (places : PlacesV) (alternatives : AlternativesV) : Type 0 where
+  pub description : IsDescription judge.desc
+  pub one_tree : HasOneTree judge.desc
+  pub has : HasAlternatives judge.desc alternatives
+  pub judges : JudgesFor judge [] []
+  pub going : judge.refused ≡ None
+  pub seen_is : judge.seen ≡ 0
+  pub opened_are : opened judge ≡ []
+  pub places_are : places ≡ nothing alternatives.numbers

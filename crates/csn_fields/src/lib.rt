@@ -25,4 +25,4 @@ pub use list::LeafList;
 pub use places::Places;
 pub use reader::FieldReader;
 pub use refusal::{Ended, OpenNode, Refusal};
-pub use string::tell_string;
+pub use string::{StringReader, tell_string};

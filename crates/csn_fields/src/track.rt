@@ -38,9 +38,9 @@ impl<'a, E: Events> Track for FieldTrack<'a, E> {
 
 /// The same, where all moves of a node that has an outline are told at once.
 #[derive(Drop)]
-pub(crate) struct WholeTrack<'a, E> {
+pub struct WholeTrack<'a, E> {
     pub alternatives: &'a Alternatives,
-    pub track: FieldTrack<'a, E>,
+    pub fields: FieldTrack<'a, E>,
 }
 
 impl<'a, E: Events> Track for WholeTrack<'a, E> {
@@ -50,7 +50,7 @@ impl<'a, E: Events> Track for WholeTrack<'a, E> {
     ghost use Rattle.csn_fields.specs.Tracks.{Takes};
 
     ghost takes = { λ old move node new.
-        Takes E.tells old.track.places old.track.events move node new.track.places new.track.events
+        Takes E.tells old.fields.places old.fields.events move node new.fields.places new.fields.events
         × (new.alternatives.now ≡ old.alternatives.now) };
 
     ghost fits = { λ track desc. AreOutlines desc track.alternatives.now.outlines };
@@ -59,12 +59,12 @@ impl<'a, E: Events> Track for WholeTrack<'a, E> {
 
     #[inline(always)]
     fn step(&mut self, step: Move, node: &Node) {
-        self.track.step(step, node);
+        self.fields.step(step, node);
     }
 
     #[inline(always)]
     fn bits(&mut self, number: u64, count: u32, node: &Node) {
-        self.track.bits(number, count, node);
+        self.fields.bits(number, count, node);
     }
 
     #[inline(always)]
@@ -77,12 +77,12 @@ impl<'a, E: Events> Track for WholeTrack<'a, E> {
         let Some(outline) = self.alternatives.outline(_i) else {
             return false;
         };
-        if !self.track.places.has_room(outline.len(), _layout.width) {
+        if !self.fields.places.has_room(outline.len(), _layout.width) {
             return false;
         }
-        let role = self.track.places.pass(_i, _layout.width);
-        let end = self.track.places.place();
-        outline.tell(role, end, _number, &mut self.track.events);
+        let role = self.fields.places.pass(_i, _layout.width);
+        let end = self.fields.places.place();
+        outline.tell(role, end, _number, &mut self.fields.events);
         true
     }
 }

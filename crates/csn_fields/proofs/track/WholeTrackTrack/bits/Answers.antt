@@ -15,7 +15,7 @@ returns g c =
     let takes : Inner → Move → Node → Inner → Type 0 =
     λ old move node new. Takes {S = g.row.E.Denot} g.E.Events.tells old.places old.events move node new.places new.events in
     let holds : Outer → Move → Node → Outer → Type 0 =
-    λ old move node new. Takes {S = g.row.E.Denot} g.E.Events.tells old.track.places old.track.events move node new.track.places new.track.events
+    λ old move node new. Takes {S = g.row.E.Denot} g.E.Events.tells old.fields.places old.fields.events move node new.fields.places new.fields.events
     × (new.alternatives.now ≡ old.alternatives.now) in
-    bits_within takes holds (λ s. record { alternatives = c.args.self.now.alternatives; track = s }) (λ s t move node h. (h, refl)) c.args.node.now
-    (low_bits c.args.count c.args.number) c.args.self.now.track c.bits.new.self c.bits.ensures
+    bits_within takes holds (λ s. record { alternatives = c.args.self.now.alternatives; fields = s }) (λ s t move node h. (h, refl)) c.args.node.now
+    (low_bits c.args.count c.args.number) c.args.self.now.fields c.bits.new.self c.bits.ensures

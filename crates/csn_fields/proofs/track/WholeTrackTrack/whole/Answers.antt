@@ -15,21 +15,21 @@ pub returns-clause-told : goal.returns-clause-told
 returns-clause-told g c = λ yes.
     let Outer : Type 0 = WholeTrack g.row.E.Denot in
     let holds : Outer → Move → Node → Outer → Type 0 =
-    λ old move node new. Takes {S = g.row.E.Denot} g.E.Events.tells old.track.places old.track.events move node new.track.places new.track.events
+    λ old move node new. Takes {S = g.row.E.Denot} g.E.Events.tells old.fields.places old.fields.events move node new.fields.places new.fields.events
     × (new.alternatives.now ≡ old.alternatives.now) in
-    let old : PlacesV = c.args.self.now.track.places in
+    let old : PlacesV = c.args.self.now.fields.places in
     let marks = c.in-Some.outline.now in
     let there : outline_at c.args.self.now.alternatives.now.outlines c.args._i ≡ Some marks =
     sym c.outline.ensures ∙ ap option_copied c.in-Some.is in
     let end : c.place-end.result ≡ old.place + c.args._layout.width =
     c.place-end.ensures ∙ ap (λ (s : PlacesV). s.place) c.pass-role.ensures.places in
     let P : Role → Type 0 = λ r. Told {S = g.row.E.Denot} g.E.Events.tells (filled r marks c.place-end.result c.args._number)
-    c.args.self.now.track.events c.tell.new.events in
+    c.args.self.now.fields.events c.tell.new.events in
     let Q : ℕ → Type 0 = λ e. Told {S = g.row.E.Denot} g.E.Events.tells (filled (role_in old.numbers c.args._i old.nodes) marks e c.args._number)
-    c.args.self.now.track.events c.tell.new.events in
+    c.args.self.now.fields.events c.tell.new.events in
     whole_told c.args._plan.now g.E.Events.tells holds
-    (λ p e. record { alternatives = c.args.self.now.alternatives; track = record { places = p; events = e } })
+    (λ p e. record { alternatives = c.args.self.now.alternatives; fields = record { places = p; events = e } })
     (λ p q e f move node h. (h, refl)) c.args._i c.args._layout.width c.args._number marks old c.pass-role.new.self
-    c.args.self.now.track.events c.tell.new.events (c.requires.fits c.args._i marks there)
+    c.args.self.now.fields.events c.tell.new.events (c.requires.fits c.args._i marks there)
     (omega (arith, c.if-not-has_room.ensures.nodes refl, c.len.ensures)) (c.if-not-has_room.ensures.bits refl) c.pass-role.ensures.places
     (subst Q end (subst P c.pass-role.ensures.role c.tell.ensures))
