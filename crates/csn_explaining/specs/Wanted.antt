@@ -64,9 +64,14 @@ abbrev pub left_text : Option ℕ → List ℕ
 left_text None = []
 left_text (Some left) = codes ", " ++ (counted_text left (codes "bit") ++ codes " left")
 
--- what is wanted behind a place where this node is the innermost that began, or none is: the root where nothing has begun
+-- what is wanted at a place in a node that began at another: the node, and how many of its bits are left
+abbrev pub open_text : (begun place : ℕ) → Option Node → List ℕ
+open_text begun place None = []
+open_text begun place (Some node) = node_text node ++ left_text (left_in begun place node)
+
+-- what is wanted at a place where this node is the innermost that began, or none is: the root where nothing has begun
 abbrev pub wanted_in : List Node → ℕ → Option OpenNode → List ℕ
-wanted_in nodes place (Some open_node) = some_node_text (slice_get nodes open_node.node) ++ left_text (left_in place (Some open_node))
+wanted_in nodes place (Some open_node) = open_text open_node.place place (slice_get nodes open_node.node)
 wanted_in nodes place None = if place == 0 then some_node_text (slice_get nodes 0) else codes "end of the block"
 
 -- what was wanted where a block was refused

@@ -2,13 +2,13 @@
 
 ghost use Rattle.std.specs.Prelude.{◌≡◌, ◌++◌, codes, map, slice_get, OnOk};
 ghost use Rattle.csn_explaining.specs.Texts.{counted_text};
-ghost use Rattle.csn_explaining.specs.Wanted.{field_text, left_text, node_text, some_node_text, symbol_letter, wanted_text};
+ghost use Rattle.csn_explaining.specs.Wanted.{field_text, left_text, node_text, open_text, some_node_text, symbol_letter, wanted_text};
 
 use crate::nodes::node_at;
 use crate::text::push_count;
 use csn_certify::Plan;
 use csn_desc::{Count, Node, Run, Symbol};
-use csn_fields::Refusal;
+use csn_fields::{OpenNode, Refusal};
 use std::alloc::AllocError;
 
 /// The letter for a symbol of a literal.
@@ -127,16 +127,24 @@ fn push_left(out: &mut Vec<u8>, left: Option<u32>) -> Result<(), AllocError>
     out.extend_from_slice(b" left")
 }
 
+/// Writes what is wanted at a place in a node that is open there: the node, and how many of its bits are left.
+fn push_open(out: &mut Vec<u8>, plan: &Plan, begun: OpenNode, place: u32) -> Result<(), AllocError>
+    ensures { OnOk result (out.new.items ≡ out.old.items ++ open_text begun.place place (slice_get plan.now.nodes begun.node)) }
+{
+    let Some(node) = node_at(plan, begun.node) else {
+        return Ok(());
+    };
+    push_node(out, node)?;
+    push_left(out, begun.left(place, node))
+}
+
 /// Writes what was wanted where a block was refused: the innermost node that had begun, and how many of its bits had come,
 /// where that is known; or that nothing was, where the root had ended.
 pub fn push_wanted(out: &mut Vec<u8>, plan: &Plan, refusal: Refusal) -> Result<(), AllocError>
     ensures { OnOk result (out.new.items ≡ out.old.items ++ wanted_text plan.now.nodes refusal) }
 {
     match refusal.within {
-        Some(open) => {
-            push_node_at(out, plan, open.node)?;
-            push_left(out, refusal.left())
-        }
+        Some(open) => push_open(out, plan, open, refusal.place),
         None if refusal.place == 0 => push_node_at(out, plan, 0),
         None => out.extend_from_slice(b"end of the block"),
     }

@@ -15,7 +15,7 @@ use Rattle.csn_fields.specs.declared.refusal.OpenNode.{OpenNode}
 use Rattle.csn_fields.specs.declared.places.Begun.{Begun}
 use Rattle.csn_fields.specs.declared.places.Inside.{Inside}
 use Rattle.csn_fields.specs.declared.places.Inside.TheVariants.{Part, Alternative, Turn}
-use Rattle.csn_fields.specs.Leaves.{kind_of, width_of}
+use Rattle.csn_fields.specs.Leaves.{kind_of}
 use Rattle.csn_fields.specs.Numbers.{number_at}
 use Rattle.csn_fields.specs.Events.{next_turn}
 
@@ -67,7 +67,7 @@ opened_with begun nodes = if nat_lt (length nodes) 64 then begun ∷ nodes else 
 abbrev pub begun_as : ℕ → Role → ℕ → Node → Begun
 begun_as i role place node =
     record {
-      node = record { node = i; role = role; place = place; bits = width_of node };
+      node = record { node = i; role = role; place = place };
       inside = inside_of node;
     }
 

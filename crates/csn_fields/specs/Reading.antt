@@ -2,6 +2,7 @@
 use Rattle.std.specs.Prelude.{◌≡◌, ℕ, ◌-◌, List, [], ◌++◌, take, Option, Some, None}
 use Rattle.std.specs.Option.{option_map}
 use Rattle.csn_desc.specs.declared.moves.Move.{Move}
+use Rattle.csn_desc.specs.declared.node.Node.{Node}
 use Rattle.csn_desc.specs.Nodes.{DescV}
 use Rattle.csn_desc.specs.Formed.{IsDescription}
 use Rattle.csn_certify.specs.Plans.{HasOneTree}
@@ -18,6 +19,7 @@ use Rattle.csn_fields.specs.declared.refusal.Ended.TheVariants.{Whole, Refused}
 use Rattle.csn_fields.specs.Numbers.{HasNumbers}
 use Rattle.csn_fields.specs.Alternatives.{AlternativesV, HasAlternatives}
 use Rattle.csn_fields.specs.Events.{Told, AreEvents, BeginEvents}
+use Rattle.csn_fields.specs.Leaves.{width_of}
 use Rattle.csn_fields.specs.Places.{PlacesV, innermost, nothing}
 use Rattle.csn_fields.specs.Telling.{ToldV, untold, Goes}
 use Rattle.csn_fields.specs.Follower.{FollowerV, FollowsFor}
@@ -74,11 +76,10 @@ abbrev pub ended_as : Judged → Option OpenNode → Ended
 ended_as Ok within = Whole
 ended_as (no_string place) within = Refused (record { place = place; within = within })
 
--- how many bits are left, where bits are refused at a place, of the innermost node that is open then; where it is a leaf
--- that has the same number of bits in all blocks
-abbrev pub left_in : ℕ → Option OpenNode → Option ℕ
-left_in place None = None
-left_in place (Some node) = option_map (λ bits. bits - (place - node.place)) node.bits
+-- how many bits are left at a place of a node that began at another; where it is a leaf that has the same number of bits
+-- in all blocks
+abbrev pub left_in : (begun place : ℕ) → Node → Option ℕ
+left_in begun place node = option_map (λ bits. bits - (place - begun)) (width_of node)
 
 -- a judge stands for no bits, and nothing is kept of a block, by a description of which these are the alternatives
 pub record IsReady (judge : JudgeV) (places : PlacesV) (alternatives : AlternativesV) : Type 0 where

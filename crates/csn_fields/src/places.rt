@@ -3,7 +3,7 @@ ghost use Rattle.csn_fields.specs.Places.{opened_with};
 
 use crate::alternatives::Alternatives;
 use crate::event::Event;
-use crate::leaf::{Leaf, LeafKind, Role, kind_of, width_of};
+use crate::leaf::{Leaf, LeafKind, Role, kind_of};
 use crate::refusal::OpenNode;
 use arrayvec::ArrayVec;
 use csn_desc::{MOST_DEPTH, Move, Node};
@@ -47,7 +47,6 @@ impl Default for Begun {
                 node: 0,
                 role: Role::Root,
                 place: 0,
-                bits: None,
             },
             inside: Inside::Part,
         }
@@ -124,19 +123,15 @@ impl<'a> Places<'a> {
     {
         let role = self.begin_part(i);
         let place = self.place;
-        let begun = OpenNode {
-            node: i,
-            role,
-            place,
-            bits: width_of(node),
-        };
-        put(
-            &mut self.nodes,
-            Begun {
-                node: begun,
-                inside: Inside::of(node),
+        let begun = Begun {
+            node: OpenNode {
+                node: i,
+                role,
+                place,
             },
-        );
+            inside: Inside::of(node),
+        };
+        put(&mut self.nodes, begun);
         self.number = 0;
         match kind_of(node) {
             Some(_) => None,

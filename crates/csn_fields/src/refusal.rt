@@ -1,4 +1,5 @@
-use crate::leaf::Role;
+use crate::leaf::{Role, width_of};
+use csn_desc::Node;
 
 /// How a block ends.
 #[derive(Clone, Copy, Debug, PartialEq, Eq, Hash)]
@@ -26,21 +27,18 @@ pub struct OpenNode {
     pub role: Role,
     /// Its first bit, from 0.
     pub place: u32,
-    /// How many bits it has in all, where it is a leaf and that is the same in all blocks.
-    pub bits: Option<u32>,
 }
 
-impl Refusal {
+impl OpenNode {
     ghost use Rattle.std.specs.Prelude.{◌≡◌};
     ghost use Rattle.csn_fields.specs.Reading.{left_in};
 
-    /// How many bits were left in the innermost node, where it is a leaf that has the same number of bits in all blocks.
-    pub fn left(&self) -> Option<u32>
-        ensures { result ≡ left_in self.now.place self.now.within }
+    /// How many bits are left of it at a place, where it is this node: a leaf that has the same number of bits in all blocks.
+    pub fn left(&self, place: u32, node: &Node) -> Option<u32>
+        ensures { result ≡ left_in self.now.place place node.now }
     {
-        let open = self.within?;
-        let bits = open.bits?;
-        let read = self.place.saturating_sub(open.place);
+        let bits = width_of(node)?;
+        let read = place.saturating_sub(self.place);
         Some(bits.saturating_sub(read))
     }
 }
