@@ -14,8 +14,8 @@ use crate::sampling::{make_blocks, push_vectors};
 use csn_bits::NoMemory;
 use csn_certify::Plan;
 use csn_explaining::{
-    BlockTeller, Drawing, FieldLines, FieldPlan, LeafWriter, LineTeller, Table, TreeTeller, push_foot,
-    push_head,
+    BlockTeller, Drawing, FieldLines, FieldPlan, LeafWriter, LineTeller, Table, TreeTeller,
+    push_foot, push_head,
 };
 use csn_io::{Shelf, Sink, Source};
 use csn_lines::{Fault, flush, pass_on};
