@@ -17,7 +17,7 @@ use Rattle.csn_encode.specs.declared.fault.EncodeFault.TheVariants as fault
 use Rattle.csn_encode.specs.declared.fault.Stop.{Stop}
 use Rattle.csn_encode.specs.declared.fault.Stop.TheVariants as stop
 use Rattle.csn_encode.specs.Misfits.{Misses, IsMisfit}
-use Rattle.csn_encode.specs.Writing.{Stands, Adds, MissesBy, IfMisfit}
+use Rattle.csn_encode.specs.Writing.{Stands, Adds, StopsAt, IfMisfit}
 use Rattle.csn_encode.specs.Encoding.{IsBlockOf, HasNoBlock, HasNoMisfit, IsFaultOf}
 use Rattle.csn_encode.proofs.OneBits.{one_bits}
 use Rattle.csn_encode.proofs.NoBits.{clash}
@@ -68,7 +68,7 @@ root_adds d t old new none h =
     record { means = subst Q (sym (h.bits ∙ ap (λ l. l ++ h.added) none)) (subst P (ap length none) h.meant); within = h.within }
 
 pub root_misses : (d : DescV) (t : TreeV) (old new : Draft) (why : MisfitWhy) → old.bits ≡ [] → old.path ≡ []
-    → MissesBy d 0 [] t old new why → IsMisfit d t new.path why × HasNoBlock d t
+    → StopsAt d 0 [] t old new why → IsMisfit d t new.path why × HasNoBlock d t
 root_misses d t old new why none start h =
     let P : ℕ → Type 0 = λ o. Misses d 0 o [] t h.below why in
     let Q : List ℕ → Type 0 = λ p. Misses d 0 0 [] t p why in
@@ -94,7 +94,7 @@ untaken d t (Some b) r same = let P : Result (List ℕ) EncodeFault → Type 0 =
 
 -- the fault of a draft that was stopped
 pub stopped : (d : DescV) (t : TreeV) (old new : Draft) (why : Stop) (e : EncodeFault) → old.bits ≡ [] → old.path ≡ [] → Stands d 0 0 [] old
-    → IfMisfit why (λ reason. (v : Values) → Stands d 0 0 v old → MissesBy d 0 v t old new reason)
+    → IfMisfit why (λ reason. (v : Values) → Stands d 0 0 v old → StopsAt d 0 v t old new reason)
     → ((reason : MisfitWhy) → why ≡ stop.Misfit reason → e ≡ fault.Misfit (record { path = new.path; why = reason }))
     → (why ≡ stop.NoMemory → e ≡ fault.NoMemory) → IsFaultOf d t e
 stopped d t old new (stop.Misfit reason) e none start stands missed misfit memory =

@@ -27,7 +27,7 @@ use Rattle.csn_encode.specs.declared.fault.Stop.TheVariants.{Misfit, NoMemory}
 use Rattle.csn_encode.specs.Misfits.{has_kind, IsPast, MissesNode, wrong_kind, wrong_field, wide_spare, no_pad}
 use Rattle.csn_encode.specs.Misfits.{wrong_spare, wrong_pad, past_lits, past_field, past_rest, past_spare, past_pad}
 use Rattle.csn_encode.specs.Misfits.{misses_here}
-use Rattle.csn_encode.specs.Writing.{Added, IfMisfit, AddsNode, MissesNodeBy, MissesSpare, not_sent, no_room}
+use Rattle.csn_encode.specs.Writing.{Added, IfMisfit, AddsNode, StopsAtNode, MissesSpare, not_sent, no_room}
 use Rattle.csn_encode.proofs.Steps.{added_as, missed_here}
 
 -- ---- what a call answered
@@ -124,7 +124,7 @@ no_named label part (shape.Named l t) h = absurd (h l t refl)
 
 module _ (d : DescV) where
   pub kind_missed : {v : Values} {t : TreeV} {old : Draft} (n : Node) (s : Shape)
-      → shape_view s ≡ t → has_kind n (shape_view s) ≡ false → MissesNodeBy d n v t old old WrongKind
+      → shape_view s ≡ t → has_kind n (shape_view s) ≡ false → StopsAtNode d n v t old old WrongKind
   kind_missed n s is other = missed_here (misses_here refl (wrong_kind (ap (λ t. has_kind n t) (sym is) ∙ other) refl)) refl
 
   -- ---- leaves
@@ -136,7 +136,7 @@ module _ (d : DescV) where
 
   pub lits_past : {run : List Symbol} {v : Values} {t : TreeV} {old new : Draft} {why : MisfitWhy}
       → t ≡ empty → (why ≡ TooManyBits) × IsPast (length old.bits) (length run)
-      → new.path ≡ old.path → MissesNodeBy d (Lits run) v t old new why
+      → new.path ≡ old.path → StopsAtNode d (Lits run) v t old new why
   lits_past {run = run} {v = v} {old = old} {why = why} is h path =
       let P : TreeV → Type 0 = λ t. MissesNode d (Lits run) (length old.bits) v t why in
       missed_here (misses_here refl (subst P (sym is) (past_lits h.1 h.0))) path
@@ -153,7 +153,7 @@ module _ (d : DescV) where
 
   pub rest_past : {v : Values} {t : TreeV} {old new : Draft} {why : MisfitWhy} (leaf : List ℕ)
       → t ≡ bits leaf → (why ≡ TooManyBits) × IsPast (length old.bits) (length leaf)
-      → new.path ≡ old.path → MissesNodeBy d Rest v t old new why
+      → new.path ≡ old.path → StopsAtNode d Rest v t old new why
   rest_past {v = v} {old = old} {why = why} leaf is h path =
       let P : TreeV → Type 0 = λ t. MissesNode d Rest (length old.bits) v t why in
       missed_here (misses_here refl (subst P (sym is) (past_rest h.1 h.0))) path
@@ -168,7 +168,7 @@ module _ (d : DescV) where
   pub field_past : {unit : ℕ} {count : Count} {v : Values} {t : TreeV} {old new : Draft} {why : MisfitWhy}
       (leaf : List ℕ) (n wanted : ℕ) → count_of v count ≡ Some n → wanted ≡ unit * n → length leaf ≡ wanted
       → t ≡ bits leaf
-      → (why ≡ TooManyBits) × IsPast (length old.bits) (length leaf) → new.path ≡ old.path → MissesNodeBy d (Field unit count) v t old new why
+      → (why ≡ TooManyBits) × IsPast (length old.bits) (length leaf) → new.path ≡ old.path → StopsAtNode d (Field unit count) v t old new why
   field_past {unit = unit} {count = count} {v = v} {old = old} {why = why} leaf n wanted counted all wide is h path =
       let P : TreeV → Type 0 = λ t. MissesNode d (Field unit count) (length old.bits) v t why in
       missed_here (misses_here refl (subst P (sym is) (past_field n counted (wide ∙ all) h.1 h.0))) path
@@ -176,7 +176,7 @@ module _ (d : DescV) where
   pub field_wrong : {unit : ℕ} {count : Count} {v : Values} {t : TreeV} {old : Draft} (leaf : List ℕ)
       (n wanted found : ℕ) → count_of v count ≡ Some n → wanted ≡ unit * n → found ≡ length leaf → ¬ (found ≡ wanted)
       → t ≡ bits leaf
-      → MissesNodeBy d (Field unit count) v t old old (WrongWidth wanted found)
+      → StopsAtNode d (Field unit count) v t old old (WrongWidth wanted found)
   field_wrong {unit = unit} {count = count} {v = v} {old = old} leaf n wanted found counted all long wrong is =
       let P : TreeV → Type 0 = λ t. MissesNode d (Field unit count) (length old.bits) v t (WrongWidth wanted found) in
       missed_here (misses_here refl (subst P (sym is) (wrong_field n counted (λ same. wrong (long ∙ same ∙ sym all)) (cc)))) refl
@@ -192,7 +192,7 @@ module _ (d : DescV) where
 
   pub spare_missed : {symbol : Symbol} {v : Values} {t : TreeV} {old new : Draft} {why : MisfitWhy}
       (reading : Reading) (leaf : List ℕ) → d.reading ≡ reading → length leaf ≡ 1 → t ≡ bits leaf
-      → MissesSpare reading symbol (length old.bits) leaf why → new.path ≡ old.path → MissesNodeBy d (Spare symbol) v t old new why
+      → MissesSpare reading symbol (length old.bits) leaf why → new.path ≡ old.path → StopsAtNode d (Spare symbol) v t old new why
   spare_missed {symbol = symbol} {v = v} {old = old} {why = why} reading leaf read one is h path =
       let P : TreeV → Type 0 = λ t. MissesNode d (Spare symbol) (length old.bits) v t why in
       missed_here (misses_here refl (subst P (sym is) (by h))) path
@@ -206,7 +206,7 @@ module _ (d : DescV) where
 
   pub spare_wide : {symbol : Symbol} {v : Values} {t : TreeV} {old : Draft} (leaf : List ℕ) (found : ℕ)
       → found ≡ length leaf → ¬ (found ≡ 1)
-      → t ≡ bits leaf → MissesNodeBy d (Spare symbol) v t old old (WrongWidth 1 found)
+      → t ≡ bits leaf → StopsAtNode d (Spare symbol) v t old old (WrongWidth 1 found)
   spare_wide {symbol = symbol} {v = v} {old = old} leaf found long wrong is =
       let P : TreeV → Type 0 = λ t. MissesNode d (Spare symbol) (length old.bits) v t (WrongWidth 1 found) in
       missed_here (misses_here refl (subst P (sym is) (wide_spare (λ same. wrong (long ∙ same)) (cc)))) refl
@@ -222,7 +222,7 @@ module _ (d : DescV) where
 
   pub pad_missed : {v : Values} {t : TreeV} {old new : Draft} {why : MisfitWhy} (reading : Reading) (leaf : List ℕ)
       → d.reading ≡ reading → 0 < length leaf → t ≡ bits leaf
-      → MissesSpare reading Low (length old.bits) leaf why → new.path ≡ old.path → MissesNodeBy d Pad v t old new why
+      → MissesSpare reading Low (length old.bits) leaf why → new.path ≡ old.path → StopsAtNode d Pad v t old new why
   pad_missed {v = v} {old = old} {why = why} reading leaf read some is h path =
       let P : TreeV → Type 0 = λ t. MissesNode d Pad (length old.bits) v t why in
       missed_here (misses_here refl (subst P (sym is) (by h))) path
@@ -234,7 +234,7 @@ module _ (d : DescV) where
           past_pad some (subst Q (sym read) spare) past e
 
   pub pad_empty : {v : Values} {t : TreeV} {old : Draft} (leaf : List ℕ) (found : ℕ) → found ≡ length leaf → found ≡ 0
-      → t ≡ bits leaf → MissesNodeBy d Pad v t old old (WrongWidth 1 found)
+      → t ≡ bits leaf → StopsAtNode d Pad v t old old (WrongWidth 1 found)
   pad_empty {v = v} {old = old} leaf found long none is =
       let P : TreeV → Type 0 = λ t. MissesNode d Pad (length old.bits) v t (WrongWidth 1 found) in
       missed_here (misses_here refl (subst P (sym is) (no_pad (nothing leaf (sym long ∙ none)) (ap (λ n. WrongWidth 1 n) none)))) refl

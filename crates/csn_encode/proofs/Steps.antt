@@ -30,7 +30,7 @@ use Rattle.csn_encode.specs.Misfits.{misses_window, misses_seq, misses_trunc, mi
 use Rattle.csn_encode.specs.Misfits.{parts_here, parts_later, MissesRepeats, repeats_here, repeats_later}
 use Rattle.csn_certify.specs.KeptNumbers.{KeepsCount}
 use Rattle.csn_encode.specs.Writing.{joined, IsReady, Stands, StandsAtPart, StandsAtParts, Added, Missed, AddsNode}
-use Rattle.csn_encode.specs.Writing.{MissesNodeBy, Adds, MissesBy, MissesBelow, AddsParts}
+use Rattle.csn_encode.specs.Writing.{StopsAtNode, Adds, StopsAt, MissesBelow, AddsParts}
 use Rattle.csn_desc.proofs.Nodewise.{parts_formed, first_formed, rest_formed, choice_formed}
 use Rattle.csn_certify.proofs.KeptNumbers.{number_room}
 use Rattle.csn_encode.proofs.Counting.{counted_few, numbers_behind, formed_few}
@@ -59,7 +59,7 @@ module _ (d : DescV) where
   node_adds {n = n} at h = added_as (λ b m. means_at n at m) h
 
   pub node_misses : {i : ℕ} {n : Node} {v : Values} {t : TreeV} {old new : Draft} {why : MisfitWhy}
-      → slice_get d.nodes i ≡ Some n → MissesNodeBy d n v t old new why → MissesBy d i v t old new why
+      → slice_get d.nodes i ≡ Some n → StopsAtNode d n v t old new why → StopsAt d i v t old new why
   node_misses {n = n} at h = missed_as (λ path reason m. misses_at n at m) h
 
   -- ---- where the draft stands
@@ -148,7 +148,7 @@ module _ (d : DescV) where
       }
 
   pub misses_below : {i : ℕ} {v : Values} {t : TreeV} {old stepped new : Draft} {step : ℕ} {why : MisfitWhy}
-      → stepped.bits ≡ old.bits → stepped.path ≡ old.path ++ step ∷ [] → MissesBy d i v t stepped new why
+      → stepped.bits ≡ old.bits → stepped.path ≡ old.path ++ step ∷ [] → StopsAt d i v t stepped new why
       → MissesBelow d step i v t old new why
   misses_below {i = i} {v = v} {t = t} {old = old} {step = step} {why = why} bits path h =
       let P : ℕ → Type 0 = λ o. Misses d i o v t h.below why in
@@ -438,14 +438,14 @@ module _ (d : DescV) where
 
   pub seq_misses : {parts : List ℕ} {v : Values} {t : TreeV} {old new : Draft} {why : MisfitWhy} (rows : List TreeV)
       → t ≡ row (trees_of rows) → length rows ≡ length parts
-      → Missed (λ path reason. MissesParts d parts 0 (length old.bits) v (trees_of rows) path reason) old new why → MissesNodeBy d (Seq parts) v t old new why
+      → Missed (λ path reason. MissesParts d parts 0 (length old.bits) v (trees_of rows) path reason) old new why → StopsAtNode d (Seq parts) v t old new why
   seq_misses {parts = parts} {v = v} {old = old} rows is all h =
       missed_as (λ path reason m. let P : TreeV → Type 0 = λ u. MissesIn d (Seq parts) (length old.bits)
       v u path reason in subst P (sym is) (misses_seq (count-trees_of rows ∙ all) m)) h
 
   pub seq_wrong : {parts : List ℕ} {v : Values} {t : TreeV} {old : Draft} (rows : List TreeV) (wanted found : ℕ)
       → t ≡ row (trees_of rows) → wanted ≡ length parts → found ≡ length rows → ¬ (found ≡ wanted)
-      → MissesNodeBy d (Seq parts) v t old old (WrongCount wanted found)
+      → StopsAtNode d (Seq parts) v t old old (WrongCount wanted found)
   seq_wrong {parts = parts} {v = v} {old = old} rows wanted found is all many wrong =
       let P : TreeV → Type 0 = λ u. MissesNode d (Seq parts) (length old.bits) v u (WrongCount wanted found) in
       let count = count-trees_of rows in
@@ -463,7 +463,7 @@ module _ (d : DescV) where
   pub trunc_misses : {parts : List ℕ} {v : Values} {t : TreeV} {old new : Draft} {why : MisfitWhy} (rows : List TreeV)
       → t ≡ row (trees_of rows) → length rows ≤ length parts
       → Missed (λ path reason. MissesParts d parts 0 (length old.bits) v (trees_of rows) path reason) old new why
-      → MissesNodeBy d (Trunc parts) v t old new why
+      → StopsAtNode d (Trunc parts) v t old new why
   trunc_misses {parts = parts} {v = v} {old = old} rows is few h =
       let count = count-trees_of rows in
       missed_as (λ path reason m. let P : TreeV → Type 0 = λ u. MissesIn d (Trunc parts) (length old.bits)
@@ -471,7 +471,7 @@ module _ (d : DescV) where
 
   pub trunc_wrong : {parts : List ℕ} {v : Values} {t : TreeV} {old : Draft} (rows : List TreeV) (wanted found : ℕ)
       → t ≡ row (trees_of rows) → wanted ≡ length parts → found ≡ length rows → wanted < found
-      → MissesNodeBy d (Trunc parts) v t old old (WrongCount wanted found)
+      → StopsAtNode d (Trunc parts) v t old old (WrongCount wanted found)
   trunc_wrong {parts = parts} {v = v} {old = old} rows wanted found is all many over =
       let P : TreeV → Type 0 = λ u. MissesNode d (Trunc parts) (length old.bits) v u (WrongCount wanted found) in
       let count = count-trees_of rows in
@@ -479,7 +479,7 @@ module _ (d : DescV) where
 
   pub trunc_idle : {parts : List ℕ} {v : Values} {t : TreeV} {old new : Draft} (rows : List TreeV) (wanted found : ℕ)
       → t ≡ row (trees_of rows) → found ≡ length rows → wanted < found
-      → AddsParts d parts v (trees_of rows) old new wanted → MissesNodeBy d (Trunc parts) v t old new (WrongCount wanted found)
+      → AddsParts d parts v (trees_of rows) old new wanted → StopsAtNode d (Trunc parts) v t old new (WrongCount wanted found)
   trunc_idle {parts = parts} {v = v} {old = old} rows wanted found is many less h =
       let P : TreeV → Type 0 = λ u. MissesNode d (Trunc parts) (length old.bits) v u (WrongCount wanted found) in
       let count : length h.meant.0 ≡ found = pieces_count d h.meant.2 ∙ count-trees_of rows ∙ sym many in
@@ -493,13 +493,13 @@ module _ (d : DescV) where
 
   pub choice_misses : {parts : List ℕ} {i : ℕ} {v : Values} {t : TreeV} {old new : Draft} {why : MisfitWhy} (j : ℕ)
       (u : TreeV) → t ≡ alt j u → slice_get parts j ≡ Some i → MissesBelow d 0 i v u old new why
-      → MissesNodeBy d (Choice parts) v t old new why
+      → StopsAtNode d (Choice parts) v t old new why
   choice_misses {parts = parts} {v = v} {old = old} j u is there h =
       missed_as (λ path reason m. let P : TreeV → Type 0 = λ w. MissesIn d (Choice parts) (length old.bits)
       v w path reason in subst P (sym is) (misses_choice m.0 m.1 there m.2)) h
 
   pub choice_none : {parts : List ℕ} {v : Values} {t : TreeV} {old : Draft} (j : ℕ) (u : TreeV)
-      → t ≡ alt j u → length parts ≤ j → MissesNodeBy d (Choice parts) v t old old NoSuchAlternative
+      → t ≡ alt j u → length parts ≤ j → StopsAtNode d (Choice parts) v t old old NoSuchAlternative
   choice_none {parts = parts} {v = v} {old = old} j u is few =
       let P : TreeV → Type 0 = λ w. MissesNode d (Choice parts) (length old.bits) v w NoSuchAlternative in
       missed_here (misses_here refl (subst P (sym is) (no_alternative few refl))) refl
@@ -512,13 +512,13 @@ module _ (d : DescV) where
 
   pub named_misses : {label : List ℕ} {i : ℕ} {v : Values} {t : TreeV} {old new : Draft} {why : MisfitWhy}
       (other : List ℕ) (u : TreeV) → t ≡ named other u → other ≡ label → MissesBelow d 0 i v u old new why
-      → MissesNodeBy d (Named label i) v t old new why
+      → StopsAtNode d (Named label i) v t old new why
   named_misses {label = label} {i = i} {v = v} {old = old} other u is same h =
       missed_as (λ path reason m. let P : TreeV → Type 0 = λ w. MissesIn d (Named label i) (length old.bits)
       v w path reason in subst P (sym is) (misses_named m.0 m.1 same m.2)) h
 
   pub named_wrong : {label : List ℕ} {i : ℕ} {v : Values} {t : TreeV} {old : Draft} (other : List ℕ) (u : TreeV)
-      → t ≡ named other u → ¬ (other ≡ label) → MissesNodeBy d (Named label i) v t old old WrongLabel
+      → t ≡ named other u → ¬ (other ≡ label) → StopsAtNode d (Named label i) v t old old WrongLabel
   named_wrong {label = label} {i = i} {v = v} {old = old} other u is differ =
       let P : TreeV → Type 0 = λ w. MissesNode d (Named label i) (length old.bits) v w WrongLabel in
       missed_here (misses_here refl (subst P (sym is) (wrong_label differ refl))) refl
@@ -534,7 +534,7 @@ module _ (d : DescV) where
   pub times_misses : {count : Count} {i : ℕ} {v : Values} {t : TreeV} {old new : Draft} {why : MisfitWhy}
       (rows : List TreeV) (n : ℕ) → t ≡ row (trees_of rows) → count_of v count ≡ Some n → length rows ≡ n
       → Missed (λ path reason. MissesRepeats d i 0 (length old.bits) v (trees_of rows) path reason) old new why
-      → MissesNodeBy d (Times count i) v t old new why
+      → StopsAtNode d (Times count i) v t old new why
   times_misses {count = count} {i = i} {v = v} {old = old} rows n is counted all h =
       missed_as (λ path reason m. let P : TreeV → Type 0 = λ w. MissesIn d (Times count i) (length old.bits)
       v w path reason in subst P (sym is) (misses_times n counted (count-trees_of rows ∙ all) m)) h
@@ -542,7 +542,7 @@ module _ (d : DescV) where
   pub times_wrong : {count : Count} {i : ℕ} {v : Values} {t : TreeV} {old : Draft} (rows : List TreeV)
       (wanted found : ℕ) → t ≡ row (trees_of rows) → count_of v count ≡ Some wanted → found ≡ length rows
       → ¬ (found ≡ wanted)
-      → MissesNodeBy d (Times count i) v t old old (WrongCount wanted found)
+      → StopsAtNode d (Times count i) v t old old (WrongCount wanted found)
   times_wrong {count = count} {i = i} {v = v} {old = old} rows wanted found is counted many wrong =
       let P : TreeV → Type 0 = λ w. MissesNode d (Times count i) (length old.bits) v w (WrongCount wanted found) in
       let all = count-trees_of rows in
@@ -555,7 +555,7 @@ module _ (d : DescV) where
       added_as (λ b m. let P : TreeV → Type 0 = λ w. NodeMeans d (Many i) (length old.bits) v b w in subst P (sym is) (means_many (times_many d some m))) h
 
   pub many_misses : {i : ℕ} {v : Values} {t : TreeV} {old new : Draft} {why : MisfitWhy} (rows : List TreeV) → t ≡ row (trees_of rows)
-      → Missed (λ path reason. MissesRepeats d i 0 (length old.bits) v (trees_of rows) path reason) old new why → MissesNodeBy d (Many i) v t old new why
+      → Missed (λ path reason. MissesRepeats d i 0 (length old.bits) v (trees_of rows) path reason) old new why → StopsAtNode d (Many i) v t old new why
   many_misses {i = i} {v = v} {old = old} rows is h =
       missed_as (λ path reason m. let P : TreeV → Type 0 = λ w. MissesIn d (Many i) (length old.bits) v w path reason in subst P (sym is) (misses_many m)) h
 
@@ -567,13 +567,13 @@ module _ (d : DescV) where
       added_only h (means_window n counted (omega (arith, long, found, all)) h.meant)
 
   pub window_misses : {unit : ℕ} {count : Count} {i : ℕ} {v : Values} {t : TreeV} {old new : Draft} {why : MisfitWhy}
-      → MissesBy d i v t old new why → MissesNodeBy d (Window unit count i) v t old new why
+      → StopsAt d i v t old new why → StopsAtNode d (Window unit count i) v t old new why
   window_misses h = missed_as (λ path reason m. misses_window m) h
 
   pub window_wrong : {unit : ℕ} {count : Count} {i : ℕ} {v : Values} {t : TreeV} {old new : Draft}
       (n wanted found : ℕ) → count_of v count ≡ Some n → wanted ≡ unit * n → found ≡ length new.bits - length old.bits
       → ¬ (found ≡ wanted)
-      → Adds d i v t old new → MissesNodeBy d (Window unit count i) v t old new (WindowLength wanted found)
+      → Adds d i v t old new → StopsAtNode d (Window unit count i) v t old new (WindowLength wanted found)
   window_wrong {old = old} n wanted found counted all size wrong h =
       let long = ap length h.bits ∙ length-append old.bits h.added in
       let own : length h.added ≡ found = omega (arith, long, size) in

@@ -81,19 +81,19 @@ IfMisfit (Misfit why) P = P why
 IfMisfit NoMemory P = Unit {0}
 
 module _ (d : DescV) where
-  -- the bits of a tree at this node were added, or the tree misses it
+  -- the bits of a tree at this node were added; or the writer stops, since the tree misses it
   abbrev pub AddsNode : Node → Values → TreeV → Draft → Draft → Type 0
   AddsNode n v t old new = Added (λ b. NodeMeans d n (length old.bits) v b t) old new
 
-  abbrev pub MissesNodeBy : Node → Values → TreeV → Draft → Draft → MisfitWhy → Type 0
-  MissesNodeBy n v t old new why = Missed (λ path reason. MissesIn d n (length old.bits) v t path reason) old new why
+  abbrev pub StopsAtNode : Node → Values → TreeV → Draft → Draft → MisfitWhy → Type 0
+  StopsAtNode n v t old new why = Missed (λ path reason. MissesIn d n (length old.bits) v t path reason) old new why
 
   -- the same at the node with a number
   abbrev pub Adds : ℕ → Values → TreeV → Draft → Draft → Type 0
   Adds i v t old new = Added (λ b. NMeans d i (length old.bits) v b t) old new
 
-  abbrev pub MissesBy : ℕ → Values → TreeV → Draft → Draft → MisfitWhy → Type 0
-  MissesBy i v t old new why = Missed (λ path reason. Misses d i (length old.bits) v t path reason) old new why
+  abbrev pub StopsAt : ℕ → Values → TreeV → Draft → Draft → MisfitWhy → Type 0
+  StopsAt i v t old new why = Missed (λ path reason. Misses d i (length old.bits) v t path reason) old new why
 
   -- at a part, which is one step further
   abbrev pub MissesBelow : ℕ → ℕ → Values → TreeV → Draft → Draft → MisfitWhy → Type 0

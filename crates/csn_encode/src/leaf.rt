@@ -7,7 +7,7 @@ ghost use Rattle.csn_desc.specs.declared.node.Node.TheVariants as node;
 ghost use Rattle.csn_desc.specs.Nodes.{DescV};
 ghost use Rattle.csn_desc.specs.Values.{Values, count_of};
 ghost use Rattle.csn_desc.specs.Spelled.{IsSpare};
-ghost use Rattle.csn_encode.specs.Writing.{Added, IfMisfit, AddsNode, MissesNodeBy, MissesSpare};
+ghost use Rattle.csn_encode.specs.Writing.{Added, IfMisfit, AddsNode, StopsAtNode, MissesSpare};
 
 use crate::draft::Draft;
 use crate::fault::Stop;
@@ -24,7 +24,7 @@ impl Draft {
     pub fn literal(&mut self, run: &Run, tree: &Tree) -> Result<(), Stop>
         ensures added { OnOk result ((d : DescV) (v : Values) → AddsNode d (node.Lits run.now) v tree.now self.old self.new) }
         ensures missed { IfErr result (λ stop. IfMisfit stop (λ why. (d : DescV) (v : Values)
-            → MissesNodeBy d (node.Lits run.now) v tree.now self.old self.new why)) }
+            → StopsAtNode d (node.Lits run.now) v tree.now self.old self.new why)) }
     {
         let Shape::Empty = &tree.shape else {
             return Err(WRONG_KIND);
@@ -36,7 +36,7 @@ impl Draft {
     pub fn spare(&mut self, symbol: Symbol, reading: Reading, tree: &Tree) -> Result<(), Stop>
         ensures added { OnOk result ((d : DescV) (v : Values) → d.reading ≡ reading → AddsNode d (node.Spare symbol) v tree.now self.old self.new) }
         ensures missed { IfErr result (λ stop. IfMisfit stop (λ why. (d : DescV) (v : Values)
-            → d.reading ≡ reading → MissesNodeBy d (node.Spare symbol) v tree.now self.old self.new why)) }
+            → d.reading ≡ reading → StopsAtNode d (node.Spare symbol) v tree.now self.old self.new why)) }
     {
         let Shape::Bits(bits) = &tree.shape else {
             return Err(WRONG_KIND);
@@ -52,7 +52,7 @@ impl Draft {
     pub fn padding(&mut self, reading: Reading, tree: &Tree) -> Result<(), Stop>
         ensures added { OnOk result ((d : DescV) (v : Values) → d.reading ≡ reading → AddsNode d node.Pad v tree.now self.old self.new) }
         ensures missed { IfErr result (λ stop. IfMisfit stop (λ why. (d : DescV) (v : Values)
-            → d.reading ≡ reading → MissesNodeBy d node.Pad v tree.now self.old self.new why)) }
+            → d.reading ≡ reading → StopsAtNode d node.Pad v tree.now self.old self.new why)) }
     {
         let Shape::Bits(bits) = &tree.shape else {
             return Err(WRONG_KIND);
@@ -85,7 +85,7 @@ impl Draft {
             v tree.now self.old self.new) }
         ensures missed { IfErr result
             (λ stop. IfMisfit stop (λ why. (d : DescV) (v : Values) (unit : ℕ) (count : CountV) (n : ℕ)
-            → count_of v count ≡ Some n → wanted ≡ unit * n → MissesNodeBy d (node.Field unit count)
+            → count_of v count ≡ Some n → wanted ≡ unit * n → StopsAtNode d (node.Field unit count)
             v tree.now self.old self.new why)) }
     {
         let Shape::Bits(bits) = &tree.shape else {
@@ -101,7 +101,7 @@ impl Draft {
     /// Writes the tree of a rest of any bits.
     pub fn rest(&mut self, tree: &Tree) -> Result<(), Stop>
         ensures added { OnOk result ((d : DescV) (v : Values) → AddsNode d node.Rest v tree.now self.old self.new) }
-        ensures missed { IfErr result (λ stop. IfMisfit stop (λ why. (d : DescV) (v : Values) → MissesNodeBy d node.Rest v tree.now self.old self.new why)) }
+        ensures missed { IfErr result (λ stop. IfMisfit stop (λ why. (d : DescV) (v : Values) → StopsAtNode d node.Rest v tree.now self.old self.new why)) }
     {
         let Shape::Bits(bits) = &tree.shape else {
             return Err(WRONG_KIND);
@@ -113,7 +113,7 @@ impl Draft {
     pub fn null(&mut self, tree: &Tree) -> Result<(), Stop>
         requires { length self.old.bits ≤ most_bits }
         ensures added { OnOk result ((d : DescV) (v : Values) → AddsNode d node.Null v tree.now self.old self.new) }
-        ensures missed { IfErr result (λ stop. IfMisfit stop (λ why. (d : DescV) (v : Values) → MissesNodeBy d node.Null v tree.now self.old self.new why)) }
+        ensures missed { IfErr result (λ stop. IfMisfit stop (λ why. (d : DescV) (v : Values) → StopsAtNode d node.Null v tree.now self.old self.new why)) }
     {
         let Shape::Empty = &tree.shape else {
             return Err(WRONG_KIND);

@@ -9,7 +9,7 @@ ghost use Rattle.csn_desc.specs.Values.{Values, count_of};
 ghost use Rattle.csn_desc.specs.Means.{TimesMean};
 ghost use Rattle.csn_encode.specs.Misfits.{MissesParts, MissesRepeats};
 ghost use Rattle.csn_encode.specs.Writing.{Stands, StandsAtPart, StandsAtParts, Added, Missed, IfMisfit, Adds};
-ghost use Rattle.csn_encode.specs.Writing.{MissesBy, AddsNode, MissesNodeBy, MissesBelow, AddsParts};
+ghost use Rattle.csn_encode.specs.Writing.{StopsAt, AddsNode, StopsAtNode, MissesBelow, AddsParts};
 
 use crate::draft::Draft;
 use crate::fault::Stop;
@@ -34,7 +34,7 @@ impl Draft {
         ensures added { OnOk result ((v : Values) → Stands plan.now i round v self.old → Adds plan.now i v tree.now self.old self.new) }
         ensures missed { IfErr result
             (λ stop. IfMisfit stop (λ why. (v : Values) → Stands plan.now i round v self.old
-            → MissesBy plan.now i v tree.now self.old self.new why)) }
+            → StopsAt plan.now i v tree.now self.old self.new why)) }
     {
         match plan.node(i, steps) {
             Node::Lits(run) => self.literal(run, tree),
@@ -100,7 +100,7 @@ impl Draft {
             → AddsNode plan.now (node.Seq parts.now) v tree.now self.old self.new) }
         ensures missed { IfErr result
             (λ stop. IfMisfit stop (λ why. (v : Values) → StandsAtParts plan.now true parts.now round v self.old
-            → MissesNodeBy plan.now (node.Seq parts.now) v tree.now self.old self.new why)) }
+            → StopsAtNode plan.now (node.Seq parts.now) v tree.now self.old self.new why)) }
     {
         let Shape::Row(rows) = &tree.shape else {
             return Err(WRONG_KIND);
@@ -129,7 +129,7 @@ impl Draft {
             → AddsNode plan.now (node.Choice parts.now) v tree.now self.old self.new) }
         ensures missed { IfErr result
             (λ stop. IfMisfit stop (λ why. (v : Values) → StandsAtParts plan.now false parts.now round v self.old
-            → MissesNodeBy plan.now (node.Choice parts.now) v tree.now self.old self.new why)) }
+            → StopsAtNode plan.now (node.Choice parts.now) v tree.now self.old self.new why)) }
     {
         let Shape::Alt(number, tree) = &tree.shape else {
             return Err(WRONG_KIND);
@@ -156,7 +156,7 @@ impl Draft {
             → count_of v count ≡ Some wanted → AddsNode plan.now (node.Times count part) v tree.now self.old self.new) }
         ensures missed { IfErr result (λ stop. IfMisfit stop (λ why. (v : Values) (count : CountV)
             → StandsAtPart plan.now part round v self.old → count_of v count ≡ Some wanted
-            → MissesNodeBy plan.now (node.Times count part) v tree.now self.old self.new why)) }
+            → StopsAtNode plan.now (node.Times count part) v tree.now self.old self.new why)) }
     {
         let Shape::Row(rows) = &tree.shape else {
             return Err(WRONG_KIND);
@@ -184,7 +184,7 @@ impl Draft {
             v tree.now self.old self.new) }
         ensures missed { IfErr result
             (λ stop. IfMisfit stop (λ why. (v : Values) (i : ℕ) → slice_get plan.now.nodes i ≡ Some (node.Many part)
-            → StandsAtPart plan.now part round v self.old → MissesNodeBy plan.now (node.Many part)
+            → StandsAtPart plan.now part round v self.old → StopsAtNode plan.now (node.Many part)
             v tree.now self.old self.new why)) }
     {
         csn_certify::laws::turns_have_bits();
@@ -234,7 +234,7 @@ impl Draft {
             → AddsNode plan.now (node.Trunc parts.now) v tree.now self.old self.new) }
         ensures missed { IfErr result
             (λ stop. IfMisfit stop (λ why. (v : Values) → StandsAtParts plan.now true parts.now round v self.old
-            → MissesNodeBy plan.now (node.Trunc parts.now) v tree.now self.old self.new why)) }
+            → StopsAtNode plan.now (node.Trunc parts.now) v tree.now self.old self.new why)) }
     {
         let Shape::Row(rows) = &tree.shape else {
             return Err(WRONG_KIND);
@@ -307,7 +307,7 @@ impl Draft {
             → AddsNode plan.now (node.Window unit count part) v tree.now self.old self.new) }
         ensures missed { IfErr result (λ stop. IfMisfit stop (λ why. (v : Values) (unit n : ℕ) (count : CountV)
             → StandsAtPart plan.now part round v self.old → count_of v count ≡ Some n → wanted ≡ unit * n
-            → MissesNodeBy plan.now (node.Window unit count part) v tree.now self.old self.new why)) }
+            → StopsAtNode plan.now (node.Window unit count part) v tree.now self.old self.new why)) }
     {
         let from = self.bits.len();
         self.write(plan, part, round + 1, tree, steps)?;
@@ -334,7 +334,7 @@ impl Draft {
             (node.Named label.now part) v tree.now self.old self.new) }
         ensures missed { IfErr result
             (λ stop. IfMisfit stop (λ why. (v : Values) → StandsAtPart plan.now part round v self.old
-            → MissesNodeBy plan.now (node.Named label.now part) v tree.now self.old self.new why)) }
+            → StopsAtNode plan.now (node.Named label.now part) v tree.now self.old self.new why)) }
     {
         let Shape::Named(other, tree) = &tree.shape else {
             return Err(WRONG_KIND);

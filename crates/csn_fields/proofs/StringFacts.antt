@@ -1,5 +1,5 @@
 -- What one judge tells of a block that is there as a whole.
-use Rattle.std.proofs.Common.{◌≡◌, ◌≤◌, ◌∙◌, ℕ, List, [], ◌++◌, length, refl, sym, subst, ap, Option, None}
+use Rattle.std.proofs.Common.{◌≡◌, ◌≤◌, ◌∙◌, ℕ, List, [], ◌++◌, length, sym, subst, ap, Option, None}
 use Rattle.csn_bits.specs.Octets.{most_bits}
 use Rattle.csn_desc.specs.declared.moves.Move.{Move}
 use Rattle.csn_desc.specs.declared.node.Node.{Node}

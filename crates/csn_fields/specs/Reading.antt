@@ -1,5 +1,5 @@
 -- What a reader of fields has told of a block. (This project's own choice.)
-use Rattle.std.specs.Prelude.{◌≡◌, ℕ, ◌-◌, List, [], ◌++◌, take, Option, Some, None}
+use Rattle.std.specs.Prelude.{◌≡◌, ℕ, ◌-◌, List, [], ◌++◌, take, Option, None}
 use Rattle.std.specs.Option.{option_map}
 use Rattle.csn_desc.specs.declared.moves.Move.{Move}
 use Rattle.csn_desc.specs.declared.node.Node.{Node}

@@ -4,7 +4,7 @@ use Rattle.std.proofs.Common.{length, refl, sym, ap, subst, arith, append-nil, l
 use Rattle.csn_desc.specs.declared.node.Node.TheVariants.{Choice}
 use Rattle.csn_desc.specs.Nodes.{DescV}
 use Rattle.csn_desc.specs.Values.{Values}
-use Rattle.csn_desc.specs.Formed.{Formed, formed}
+use Rattle.csn_desc.specs.Formed.{Formed}
 use Rattle.csn_desc.specs.Follows.{NFollow}
 use Rattle.csn_look.specs.Keys.{InKeys}
 use Rattle.csn_desc.proofs.Nodewise.{parts_there}

@@ -2,7 +2,7 @@
 use Rattle.std.proofs.Common.{◌≡◌, ℕ, List, [], ◌∷◌, ◌++◌, map, append_assoc, append-nil, refl, sym, ◌∙◌, ap, subst, Some, slice_get}
 use Rattle.std.specs.Prelude.{⊤}
 use Rattle.csn_desc.specs.declared.moves.Move.{Move}
-use Rattle.csn_desc.specs.declared.moves.Move.TheVariants.{Enter, Bit, Leave}
+use Rattle.csn_desc.specs.declared.moves.Move.TheVariants.{Bit, Leave}
 use Rattle.csn_desc.specs.declared.node.Node.{Node}
 use Rattle.csn_desc.specs.TreeV.{TreeV, Trees}
 use Rattle.csn_desc.specs.Nodes.{DescV}

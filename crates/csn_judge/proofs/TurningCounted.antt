@@ -17,7 +17,7 @@ use Rattle.csn_desc.specs.declared.node.Node.{Node}
 use Rattle.csn_desc.specs.declared.node.Node.TheVariants.{Lits, Spare, Pad, Null, Field, Rest, Seq, Choice, Times, Many, Trunc, Window, Named}
 use Rattle.csn_desc.specs.Nodes.{DescV}
 use Rattle.csn_desc.specs.Values.{Values, is_named, is_labelled}
-use Rattle.csn_desc.specs.Formed.{is_counted, value_width, width_of, labelled_part, formed}
+use Rattle.csn_desc.specs.Formed.{is_counted, value_width, width_of, labelled_part}
 use Rattle.csn_certify.proofs.CountedValues.{FewBits, few_bits}
 use Rattle.csn_certify.proofs.KeptNumbers.{number_room}
 use Rattle.csn_judge.specs.declared.frame.Frame.{Frame}

@@ -9,7 +9,7 @@ use Rattle.csn_desc.specs.declared.node.Node.{Node}
 use Rattle.csn_desc.specs.declared.node.Node.TheVariants.{Trunc}
 use Rattle.csn_desc.specs.Nodes.{DescV}
 use Rattle.csn_desc.specs.Values.{Values}
-use Rattle.csn_desc.specs.Formed.{Formed, formed}
+use Rattle.csn_desc.specs.Formed.{Formed}
 use Rattle.csn_desc.specs.Follows.{NFollow}
 use Rattle.csn_look.specs.Ends.{parts_end}
 use Rattle.csn_look.proofs.Meaning.ReachFacts.{parts_end_more}

@@ -87,10 +87,6 @@ HasJob rule =
     (length rule.text ≤ MOST_DESCRIPTION) × (rules : RulesV) × (d : DescV)
     × IsCompiled rule.text rule.name rule.reading rules d
 
--- the rules have this certified description, whichever text they are of
-abbrev pub IsCompiledBy : RulesV → List ℕ → Reading → DescV → Type 0
-IsCompiledBy rules name reading d = (text : List ℕ) → HasRules text rules → IsCompiled text name reading rules d
-
 -- the rules of the catalogue give the entries these descriptions, one for each in their order
 abbrev pub AreCompiled : RulesV → Reading → List Entry → List DescV → Type 0
 AreCompiled rules reading [] [] = Unit {0}
@@ -120,10 +116,6 @@ IsReason text name reading (Description no_memory_for_nodes) = Unit {0}
 IsReason text name reading (Plan (has_conflict conflict)) =
     (rules : RulesV) × (d : DescV) × HasRules text rules × IsResolved rules name reading d × IsFirstConflict d MOST_WORD conflict
 IsReason text name reading (Plan no_memory_for_plan) = Unit {0}
-
--- this is why the rules have none, whichever text they are of
-abbrev pub IsReasonBy : RulesV → List ℕ → Reading → NoPlan → Type 0
-IsReasonBy rules name reading reason = (text : List ℕ) → HasRules text rules → IsReason text name reading reason
 
 -- the line that tells the reason, and the end of a run
 abbrev pub Tells : NoPlan → List ℕ → Ended → Type 0

@@ -5,7 +5,7 @@ ghost use Rattle.csn_desc.specs.declared.reading.Reading.{Reading};
 ghost use Rattle.csn_grammar.specs.Place.{HasRules};
 ghost use Rattle.csn_grammar.specs.RulesV.{RulesV};
 ghost use Rattle.csn_resolve.specs.Resolved.{IsResolved};
-ghost use Rattle.csn_plan.specs.Compiled.{IsCompiled, IsCompiledBy, IsReason, IsReasonBy, Tells, certified_line, conflict_line, digits_of};
+ghost use Rattle.csn_plan.specs.Compiled.{IsCompiled, IsReason, Tells, certified_line, conflict_line, digits_of};
 
 use crate::ended::Ended;
 use crate::numbers::push_numbers;
@@ -50,8 +50,8 @@ pub fn rules_of(alloc: Global, text: &[u8]) -> Compiled<Rules>
 
 /// The certified description of a named rule among these.
 fn certified(alloc: Global, rules: &Rules, name: &[u8], reading: Reading) -> Compiled<Plan>
-    ensures plan { IfOk result (IsCompiledBy rules.now name.now reading) }
-    ensures none { IfErr result (IsReasonBy rules.now name.now reading) }
+    ensures plan { IfOk result (λ plan. (text : List ℕ) → HasRules text rules.now → IsCompiled text name.now reading rules.now plan) }
+    ensures none { IfErr result (λ reason. (text : List ℕ) → HasRules text rules.now → IsReason text name.now reading reason) }
 {
     let desc = match resolve(alloc, rules, name, reading) {
         Ok(desc) => desc,
@@ -65,8 +65,8 @@ fn certified(alloc: Global, rules: &Rules, name: &[u8], reading: Reading) -> Com
 
 /// The plan of a named rule among these, with the openings of its nodes.
 pub fn plan_by(alloc: Global, rules: &Rules, name: &[u8], reading: Reading) -> Compiled<TextPlan>
-    ensures plan { IfOk result (IsCompiledBy rules.now name.now reading) }
-    ensures none { IfErr result (IsReasonBy rules.now name.now reading) }
+    ensures plan { IfOk result (λ plan. (text : List ℕ) → HasRules text rules.now → IsCompiled text name.now reading rules.now plan) }
+    ensures none { IfErr result (λ reason. (text : List ℕ) → HasRules text rules.now → IsReason text name.now reading reason) }
 {
     let plan = certified(alloc, rules, name, reading)?;
     match TextPlan::new(alloc, plan) {

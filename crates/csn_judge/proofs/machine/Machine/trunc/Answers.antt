@@ -1,10 +1,9 @@
-use Rattle.std.proofs.Common.{inl, inr, ℕ, ◌+◌, List, lit<, ◌≤◌, ◌≡◌, ◌∷◌, [], ◌⊎◌, true, length, reverse, refl, sym, ap, subst, ◌∙◌, arith, Some}
+use Rattle.std.proofs.Common.{inl, inr, ℕ, List, lit<, ◌≤◌, ◌≡◌, ◌∷◌, [], ◌⊎◌, true, length, reverse, refl, sym, ap, subst, ◌∙◌, arith, Some}
 use Rattle.std.proofs.lemmas.List.{length-reverse}
 use Rattle.std.proofs.lemmas.Option.{slice_get_within}
 use Rattle.csn_desc.specs.Nodes.{DescV}
 use Rattle.csn_desc.specs.declared.moves.Move.TheVariants.{Leave}
 use Rattle.csn_desc.specs.declared.node.Node.{Node}
-use Rattle.csn_desc.specs.declared.node.Node.TheVariants.{Trunc}
 use Rattle.csn_judge.specs.declared.frame.Frame.{Frame}
 use Rattle.csn_judge.specs.declared.frame.Frame.TheVariants as frame
 use Rattle.csn_judge.specs.Coming.{Coming}
